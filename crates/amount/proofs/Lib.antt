@@ -1,0 +1,4 @@
+pub mod Wraps
+pub mod Volumes
+pub mod Waters
+pub mod Totals
