@@ -17,7 +17,11 @@ fn both_kinds_are_summed() -> Result<(), Fail> {
     check_eq(sum(&volumes).units, -2)?;
     let waters = [
         Water { v: 1, p: 2, q: 3 },
-        Water { v: i32::MAX, p: -5, q: 0 },
+        Water {
+            v: i32::MAX,
+            p: -5,
+            q: 0,
+        },
     ];
     let all = sum(&waters);
     check_eq(all.v, i32::MIN)?;

@@ -1,0 +1,6 @@
+pub mod Joins
+pub mod Sheets
+pub mod Parts
+pub mod Paints
+pub mod Rows
+pub mod Cover
