@@ -1,0 +1,4 @@
+pub mod Pours
+pub mod Opens
+pub mod Calls
+pub mod Totals

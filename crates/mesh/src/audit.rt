@@ -1,0 +1,43 @@
+ghost use mathlib.Core.Path.{_≡_};
+ghost use Rattle.model.specs.Calls.{audit-call};
+ghost use Rattle.mesh.specs.Reads.{lists, state-of, outcome};
+ghost use Rattle.mesh.specs.Reports.{reported};
+use crate::mesh::Mesh;
+use crate::refusal::Refusal;
+use crate::sheets::Sheets;
+use crate::total::leaf_total;
+use amount::Amount;
+
+// What an audit reports.
+#[derive(Clone, Copy)]
+pub struct Audit<V> {
+    // how many steps were accepted
+    pub steps: u32,
+    // what all live uncovered cells hold
+    pub total: V,
+    // the sum of what was poured
+    pub poured: V,
+    // the sum of what came in over the boundary
+    pub inward: V,
+}
+
+impl<V: Amount> Mesh<V> {
+    // Reports the accepted steps, the composite total and the sums poured and inward. It changes nothing.
+    // Refused: 2 a sheet of the wrong length, 5 marks that differ from what the patches say.
+    pub fn audit(&self, sheets: &Sheets<'_, V>) -> Result<Audit<V>, Refusal>
+        ensures { λ r. ⌜ outcome (reported r) (state-of (V·Amount .addition) (now (self .exit)) (now (now (sheets .exit) .contents))) (lists (now (now (sheets .exit) .contents)) (now (now (sheets .exit) .before)) (now (now (sheets .exit) .corrections)) (now (now (sheets .exit) .marks)) (now (now (sheets .exit) .wanted))) ≡ audit-call (V·Amount .addition) (state-of (V·Amount .addition) (now (self .entry)) (now (now (sheets .entry) .contents))) (lists (now (now (sheets .entry) .contents)) (now (now (sheets .entry) .before)) (now (now (sheets .entry) .corrections)) (now (now (sheets .entry) .marks)) (now (now (sheets .entry) .wanted))) ⌝ }
+    {
+        if !sheets.are_long(self.layout.sheet_length()) {
+            return Err(Refusal::SheetLength);
+        }
+        if !self.layout.marks_agree(sheets.marks) {
+            return Err(Refusal::Marks);
+        }
+        Ok(Audit {
+            steps: self.steps,
+            total: leaf_total(&self.layout, sheets.marks, sheets.contents),
+            poured: self.poured,
+            inward: self.inward,
+        })
+    }
+}

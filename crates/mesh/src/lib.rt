@@ -1,0 +1,15 @@
+// A mesh and its calls: open, pour and audit, over five lent sheets.
+mod audit;
+mod clear;
+mod mesh;
+mod open;
+mod pour;
+mod refusal;
+mod sheets;
+mod total;
+mod whole;
+
+pub use audit::Audit;
+pub use mesh::Mesh;
+pub use refusal::Refusal;
+pub use sheets::Sheets;

@@ -1,0 +1,59 @@
+ghost use mathlib.Core.Path.{_≡_};
+ghost use mathlib.Core.Bool.{cond};
+ghost use Prim.Native.Nat.{_*_, _≤_};
+ghost use lib.Dec.{eqb};
+ghost use lib.ListN.{length};
+ghost use Rattle.grid.specs.Sizes.{sheet-length, sheet};
+ghost use Rattle.model.specs.Calls.{open-call};
+ghost use Rattle.mesh.specs.Reads.{lists, opening};
+use crate::clear::clear;
+use crate::mesh::Mesh;
+use crate::refusal::Refusal;
+use crate::sheets::Sheets;
+use amount::Amount;
+use grid::Layout;
+use grid::Size;
+
+// Marks the base cells, which stand first, as live and uncovered, and no other cell as live.
+fn mark_base(layout: &Layout, marks: &mut [u8])
+    requires { ⌜ length (now marks) ≡ sheet-length (now layout .size) ⌝ }
+    ensures { λ _. ⌜ now (marks .exit) ≡ sheet (now (layout .entry) .size) (λ l x y. cond (eqb l 0) 1 0) ⌝ }
+{
+    let base_cells = layout.size.width * layout.size.height;
+    clear(marks, 0);
+    clear(&mut marks[0..base_cells], 1);
+}
+
+impl<V: Amount> Mesh<V> {
+    // Opens a mesh of this size, with nothing in it. Contents and the working sheets become zero, marks 1 on level 0 and 0 elsewhere.
+    // Refused: 1 a size out of range, 2 a sheet of the wrong length.
+    pub fn open(size: Size, sheets: Sheets<'_, V>) -> Result<Mesh<V>, Refusal>
+        ensures { λ r. ⌜ opening (V·Amount .addition) r (lists (now (sheets .exit .0)) (now (sheets .exit .1 .0)) (now (sheets .exit .1 .1 .0)) (now (sheets .exit .1 .1 .1 .0)) (now (sheets .exit .1 .1 .1 .1 .0))) ≡ open-call (V·Amount .addition) size (lists (now (sheets .entry .contents)) (now (sheets .entry .before)) (now (sheets .entry .corrections)) (now (sheets .entry .marks)) (now (sheets .entry .wanted))) ⌝ }
+    {
+        let Some(layout) = Layout::flat(size) else {
+            return Err(Refusal::Size);
+        };
+        if !sheets.are_long(layout.sheet_length()) {
+            return Err(Refusal::SheetLength);
+        }
+        let Sheets {
+            contents,
+            before,
+            corrections,
+            marks,
+            wanted,
+        } = sheets;
+        let zero = V::zero();
+        clear(contents, zero);
+        clear(before, zero);
+        clear(corrections, zero);
+        mark_base(&layout, marks);
+        clear(wanted, 0);
+        Ok(Mesh {
+            layout,
+            steps: 0,
+            poured: zero,
+            inward: zero,
+        })
+    }
+}
