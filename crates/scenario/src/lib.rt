@@ -1,0 +1,2 @@
+// The text of a scenario: its lines, what stands in them, and what is written back.
+pub mod text;
