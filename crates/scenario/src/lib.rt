@@ -1,3 +1,4 @@
 // The text of a scenario: its lines, what stands in them, and what is written back.
 pub mod number;
 pub mod text;
+pub mod word;
