@@ -46,15 +46,15 @@ place-due phase.Cluster = 5
 place-due phase.Body = 6
 
 -- the phase after a line that was due
-abbrev pub after : Phase → Phase
-after phase.Mesh = phase.Rule
-after phase.Rule = phase.Feed
-after phase.Feed = phase.Split
-after phase.Split = phase.Flag
-after phase.Flag = phase.Cluster
-after phase.Cluster = phase.Body
-after phase.Body = phase.Body
+abbrev pub phase-after : Phase → Phase
+phase-after phase.Mesh = phase.Rule
+phase-after phase.Rule = phase.Feed
+phase-after phase.Feed = phase.Split
+phase-after phase.Split = phase.Flag
+phase-after phase.Flag = phase.Cluster
+phase-after phase.Cluster = phase.Body
+phase-after phase.Body = phase.Body
 
 -- the phase after a line that begins with w, if that line was due
 abbrev pub next-phase : Phase → Word → Option Phase
-next-phase p w = cond (eqb (place-of w) (place-due p)) (Some (after p)) None
+next-phase p w = cond (eqb (place-of w) (place-due p)) (Some (phase-after p)) None

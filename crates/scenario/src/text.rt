@@ -1,21 +1,33 @@
 // A text cut at its separators.
 ghost use mathlib.Core.Path.{_≡_};
-ghost use Prim.Native.Nat.{ℕ};
-ghost use lib.ListN.{length};
+ghost use Prim.Native.Nat.{_+_, _<_};
+ghost use lib.ListN.{length, take, drop};
 ghost use Rattle.std.specs.Options.{mapped};
+ghost use Rattle.std.specs.Slices.{found};
 ghost use Rattle.std.specs.shelf.Maps.{nth};
 ghost use Rattle.scenario.specs.Text.{cut-at, fields};
+
+// Where the first separator stands.
+fn position(text: &[u8], separator: u8) -> Option<usize>
+    ensures cuts { λ r. ⌜ mapped (λ i. (take i (now (text .entry)), drop (i + 1) (now (text .entry)))) r ≡ cut-at separator (now (text .entry)) ⌝ }
+    ensures inside { λ r. ⌜ found r (λ i. i < length (now (text .entry))) ⌝ }
+{
+    for (i, byte) in text.iter().enumerate() {
+        if *byte == separator {
+            return Some(i);
+        }
+    }
+    None
+}
 
 // What stands before the first separator, and what stands after it.
 pub fn cut(text: &[u8], separator: u8) -> Option<(&[u8], &[u8])>
     ensures { λ r. ⌜ mapped (λ parts. (now (parts .0), now (parts .1))) r ≡ cut-at separator (now (text .entry)) ⌝ }
 {
-    for (i, byte) in text.iter().enumerate() {
-        if *byte == separator {
-            return Some((&text[..i], &text[i + 1..]));
-        }
+    match position(text, separator) {
+        Some(i) => Some((&text[..i], &text[i + 1..])),
+        None => None,
     }
-    None
 }
 
 // The field of a line that has this number, counted from 0.
