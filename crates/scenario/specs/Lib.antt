@@ -1,0 +1,4 @@
+pub mod Numbers
+pub mod Printed
+pub mod Text
+pub mod Words
