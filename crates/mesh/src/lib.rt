@@ -2,6 +2,7 @@
 mod audit;
 mod clear;
 mod mesh;
+mod number;
 mod open;
 mod pour;
 mod refusal;
@@ -12,4 +13,7 @@ mod whole;
 pub use audit::Audit;
 pub use mesh::Mesh;
 pub use refusal::Refusal;
+pub use refusal::RefusalDebug;
+pub use refusal::RefusalEq;
+pub use refusal::RefusalPartialEq;
 pub use sheets::Sheets;

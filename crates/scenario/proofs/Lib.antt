@@ -1,3 +1,0 @@
-pub mod Cuts
-pub mod Readings
-pub mod Spellings
