@@ -1,7 +1,9 @@
 -- Texts written one after another. Assumes nothing.
 use mathlib.Core.Path.{_≡_, ap, _∙_}
 use mathlib.Core.List.{List, _++_, append-assoc}
+use mathlib.Core.Bool.{cond}
 use Prim.Native.Nat.{ℕ}
+use Rattle.std.specs.Results.{isOk}
 use Rattle.std.specs.Vec.{made}
 use Rattle.std.specs.declared.result.Result.{Result}
 use Rattle.std.specs.declared.result.Result.the-variants.{Ok, Err}
@@ -17,3 +19,8 @@ pub written-as : {X Y : Type 0} (r : Result X Y) (start end text other : List �
     → made r (λ _. end ≡ start ++ text) → made r (λ _. end ≡ start ++ other)
 written-as (Ok x) start end text other e h = h ∙ ap (λ b. start ++ b) e
 written-as (Err y) start end text other e h = tt
+
+-- what `push_str` says, where it succeeds
+pub pushed : {X Y : Type 0} (r : Result X Y) (start end text : List ℕ) → end ≡ cond (isOk r) (start ++ text) start → made r (λ _. end ≡ start ++ text)
+pushed (Ok x) start end text h = h
+pushed (Err y) start end text h = tt

@@ -1,4 +1,4 @@
-pub mod Numbers
 pub mod Printed
-pub mod Text
-pub mod Words
+pub mod Answers
+pub mod Program
+pub mod Ran

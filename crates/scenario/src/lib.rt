@@ -1,7 +1,8 @@
-// The text of a scenario: its lines, what stands in them, and what is written back.
-pub mod number;
-pub mod print;
-#[cfg(test)]
-mod tests;
-pub mod text;
-pub mod word;
+// A scenario, from its bytes to what is printed.
+mod execute;
+mod file;
+mod lines;
+mod print;
+mod sheet;
+
+pub use file::run;
