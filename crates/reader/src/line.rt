@@ -32,11 +32,7 @@ fn read_pour<V: Kind>(line: &[u8]) -> Result<Command<V>, Fault>
     let Some(amount) = V::read(line) else {
         return Err(Fault::Number);
     };
-    Ok(Command::Pour {
-        x,
-        y,
-        amount,
-    })
+    Ok(Command::Pour { x, y, amount })
 }
 
 // Reads a line that begins with this word.

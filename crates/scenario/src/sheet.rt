@@ -11,7 +11,11 @@ use std::alloc::AllocError;
 use std::alloc::Global;
 
 // A sheet with this value in each entry.
-pub(crate) fn new_sheet<T: Copy>(heap: Global, value: T, length: usize) -> Result<Vec<T>, AllocError>
+pub(crate) fn new_sheet<T: Copy>(
+    heap: Global,
+    value: T,
+    length: usize,
+) -> Result<Vec<T>, AllocError>
     ensures { λ r. ⌜ made r (λ v. vec-items v ≡ replicate length value) ⌝ }
 {
     let mut sheet = Vec::new(heap);

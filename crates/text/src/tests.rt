@@ -1,5 +1,5 @@
-use crate::numbers::number;
 use crate::fields::field_count;
+use crate::numbers::number;
 use std::test::*;
 
 #[test]

@@ -24,9 +24,9 @@ loop-line-again g c =
     let l = c .loop-line in (
       omega (arith, l .inv .0, length-cut 10 (l .rest .now) (c .in-Some .line .now) (c .in-Some .after .now) (c .in-Some .ensures tt)),
       goes-on G (g .V·Kind .form) (l .number) (l .phase) (state-of G (l .mesh) (l .contents)) (lists (l .contents) (l .before) (l .corrections) (l .marks) (l .wanted))
-      (l .rest .now) (c .in-Some .line .now) (c .in-Some .after .now) (c .in-Some .ensures tt) (string-bytes (l .out)) (c .in-Continue-next .field-0) (c .in-Some-2 .next) (c .in-Some-2 .is)
-      (string-bytes (c .run-line .last .out)) _ _ (c .in-Continue-next .ensures tt)
-      ∙ l .inv .1,
+          (l .rest .now) (c .in-Some .line .now) (c .in-Some .after .now) (c .in-Some .ensures tt) (string-bytes (l .out)) (c .in-Continue-next .field-0) (c .in-Some-2 .next) (c .in-Some-2 .is)
+          (string-bytes (c .run-line .last .out)) _ _ (c .in-Continue-next .ensures tt)
+          ∙ l .inv .1,
     )
 
 pub returns : need.returns
