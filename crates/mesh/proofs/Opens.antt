@@ -39,12 +39,12 @@ module _ {A : Type 0} (G : Addition A) (o : Layout) (size : Size) (size-is : o .
   zeros : (contents : List A) → contents ≡ replicate (sheet-length size) (G .zero) → fields-of (o .size) (G .zero) contents ≡ (λ l x y. G .zero)
   zeros contents e = ap (fields-of (o .size) (G .zero)) e ∙ fields-of-zeros (o .size) (G .zero) (sheet-length size) (ap sheet-length (sym size-is))
 
-  pub opened-state : (nothing : A) → nothing ≡ G .zero → (contents : List A) → contents ≡ replicate (sheet-length size) (G .zero)
-      → state-of G (record { layout = o; steps = 0; poured = nothing; inward = nothing }) contents ≡ opened G size
-  opened-state nothing e contents all = λ i. record {
+  pub opened-state : (nothing : A) → nothing ≡ G .zero → (sheets : Sheets A) → sheets .contents ≡ replicate (sheet-length size) (G .zero)
+      → state-of G (record { layout = o; steps = 0; poured = nothing; inward = nothing }) sheets ≡ opened G size
+  opened-state nothing e sheets all = λ i. record {
     size = size-is i;
     patches = λ k. none-at k i;
-    contents = zeros contents all i;
+    contents = zeros (sheets .contents) all i;
     steps = 0;
     poured = e i;
     inward = e i;
@@ -55,11 +55,11 @@ module _ {A : Type 0} (G : Addition A) (o : Layout) (size : Size) (size-is : o .
       → contents ≡ replicate (sheet-length size) (G .zero) → before ≡ replicate (sheet-length size) (G .zero)
       → corrections ≡ replicate (sheet-length size) (G .zero) → marks ≡ sheet size (λ l x y. cond (eqb l 0) 1 0)
       → wanted ≡ replicate (sheet-length size) 0
-      → record { mesh = Ok (state-of G (record { layout = o; steps = 0; poured = nothing; inward = nothing }) contents); sheets = lists contents before corrections marks wanted }
+      → record { mesh = Ok (state-of G (record { layout = o; steps = 0; poured = nothing; inward = nothing }) (lists contents before corrections marks wanted)); sheets = lists contents before corrections marks wanted }
       ≡ open-call G size sheets
   opened-by sheets ranged long nothing e contents before corrections marks wanted ce be re me we =
       (λ i. record {
-        mesh = Ok (opened-state nothing e contents ce i);
+        mesh = Ok (opened-state nothing e (lists contents before corrections marks wanted) ce i);
         sheets = record { contents = ce i; before = be i; corrections = re i; marks = me i; wanted = we i };
       })
       ∙ sym (ap (λ r. unless-closed r sheets (record { mesh = Ok (opened G size); sheets = opened-sheets G size })) (cond-true _ _ _ ranged ∙ cond-true _ _ _ long))

@@ -1,6 +1,6 @@
 ghost use mathlib.Core.Path.{_≡_};
 ghost use Rattle.model.specs.Calls.{audit-call};
-ghost use Rattle.mesh.specs.Reads.{lists, state-of, outcome};
+ghost use Rattle.mesh.specs.Reads.{lent, state-of, outcome};
 ghost use Rattle.mesh.specs.Reports.{reported};
 use crate::mesh::Mesh;
 use crate::refusal::Refusal;
@@ -25,7 +25,7 @@ impl<V: Amount> Mesh<V> {
     // Reports the accepted steps, the composite total and the sums poured and inward. It changes nothing.
     // Refused: 2 a sheet of the wrong length, 5 marks that differ from what the patches say.
     pub fn audit(&self, sheets: &Sheets<'_, V>) -> Result<Audit<V>, Refusal>
-        ensures { λ r. ⌜ outcome (reported r) (state-of (V·Amount .addition) (now (self .exit)) (now (now (sheets .exit) .contents))) (lists (now (now (sheets .exit) .contents)) (now (now (sheets .exit) .before)) (now (now (sheets .exit) .corrections)) (now (now (sheets .exit) .marks)) (now (now (sheets .exit) .wanted))) ≡ audit-call (V·Amount .addition) (state-of (V·Amount .addition) (now (self .entry)) (now (now (sheets .entry) .contents))) (lists (now (now (sheets .entry) .contents)) (now (now (sheets .entry) .before)) (now (now (sheets .entry) .corrections)) (now (now (sheets .entry) .marks)) (now (now (sheets .entry) .wanted))) ⌝ }
+        ensures { λ r. ⌜ outcome (V·Amount .addition) (reported r) (now (self .exit)) (lent (now (sheets .exit))) ≡ audit-call (V·Amount .addition) (state-of (V·Amount .addition) (now (self .entry)) (lent (now (sheets .entry)))) (lent (now (sheets .entry))) ⌝ }
     {
         if !sheets.are_long(self.layout.sheet_length()) {
             return Err(Refusal::SheetLength);

@@ -5,7 +5,7 @@ ghost use lib.Dec.{eqb};
 ghost use lib.ListN.{length};
 ghost use Rattle.grid.specs.Sizes.{sheet-length, sheet};
 ghost use Rattle.model.specs.Calls.{open-call};
-ghost use Rattle.mesh.specs.Reads.{lists, opening};
+ghost use Rattle.mesh.specs.Reads.{lent, left, opening};
 use crate::clear::clear;
 use crate::mesh::Mesh;
 use crate::refusal::Refusal;
@@ -28,7 +28,7 @@ impl<V: Amount> Mesh<V> {
     // Opens a mesh of this size, with nothing in it. Contents and the working sheets become zero, marks 1 on level 0 and 0 elsewhere.
     // Refused: 1 a size out of range, 2 a sheet of the wrong length.
     pub fn open(size: Size, sheets: Sheets<'_, V>) -> Result<Mesh<V>, Refusal>
-        ensures { λ r. ⌜ opening (V·Amount .addition) r (lists (now (sheets .exit .0)) (now (sheets .exit .1 .0)) (now (sheets .exit .1 .1 .0)) (now (sheets .exit .1 .1 .1 .0)) (now (sheets .exit .1 .1 .1 .1 .0))) ≡ open-call (V·Amount .addition) size (lists (now (sheets .entry .contents)) (now (sheets .entry .before)) (now (sheets .entry .corrections)) (now (sheets .entry .marks)) (now (sheets .entry .wanted))) ⌝ }
+        ensures { λ r. ⌜ opening (V·Amount .addition) r (left (sheets .exit)) ≡ open-call (V·Amount .addition) size (lent (sheets .entry)) ⌝ }
     {
         let Some(layout) = Layout::flat(size) else {
             return Err(Refusal::Size);

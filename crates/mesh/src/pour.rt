@@ -7,7 +7,7 @@ ghost use Rattle.grid.specs.Layouts.{hierarchy-of, marks-of};
 ghost use Rattle.model.specs.Fields.{fields-of};
 ghost use Rattle.model.specs.Pour.{pour as pour-rule};
 ghost use Rattle.model.specs.Calls.{pour-call};
-ghost use Rattle.mesh.specs.Reads.{lists, state-of, outcome};
+ghost use Rattle.mesh.specs.Reads.{lent, left, state-of, outcome};
 use crate::mesh::Mesh;
 use crate::refusal::Refusal;
 use crate::sheets::Sheets;
@@ -60,7 +60,7 @@ impl<V: Amount> Mesh<V> {
         y: usize,
         amount: V,
     ) -> Result<(), Refusal>
-        ensures { λ r. ⌜ outcome r (state-of (V·Amount .addition) (now (self .exit)) (now (sheets .exit .0))) (lists (now (sheets .exit .0)) (now (sheets .exit .1 .0)) (now (sheets .exit .1 .1 .0)) (now (sheets .exit .1 .1 .1 .0)) (now (sheets .exit .1 .1 .1 .1 .0))) ≡ pour-call (V·Amount .addition) (state-of (V·Amount .addition) (now (self .entry)) (now (sheets .entry .contents))) (lists (now (sheets .entry .contents)) (now (sheets .entry .before)) (now (sheets .entry .corrections)) (now (sheets .entry .marks)) (now (sheets .entry .wanted))) x y amount ⌝ }
+        ensures { λ r. ⌜ outcome (V·Amount .addition) r (now (self .exit)) (left (sheets .exit)) ≡ pour-call (V·Amount .addition) (state-of (V·Amount .addition) (now (self .entry)) (lent (sheets .entry))) (lent (sheets .entry)) x y amount ⌝ }
     {
         if !sheets.are_long(self.layout.sheet_length()) {
             return Err(Refusal::SheetLength);

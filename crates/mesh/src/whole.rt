@@ -1,12 +1,12 @@
 ghost use mathlib.Core.Path.{_≡_};
 ghost use Rattle.model.specs.Refusals.{all-long};
-ghost use Rattle.mesh.specs.Reads.{lists};
+ghost use Rattle.mesh.specs.Reads.{lent};
 use crate::sheets::Sheets;
 
 impl<V> Sheets<'_, V> {
     // Whether each of the five sheets has this length.
     pub(crate) fn are_long(&self, length: usize) -> bool
-        ensures { λ r. ⌜ r ≡ all-long length (lists (now (now (self .entry) .contents)) (now (now (self .entry) .before)) (now (now (self .entry) .corrections)) (now (now (self .entry) .marks)) (now (now (self .entry) .wanted))) ⌝ }
+        ensures { λ r. ⌜ r ≡ all-long length (lent (now (self .entry))) ⌝ }
     {
         self.contents.len() == length
             && self.before.len() == length

@@ -1,6 +1,6 @@
 // A command on the mesh.
 ghost use mathlib.Core.Path.{_≡_};
-ghost use Rattle.mesh.specs.Reads.{lists, state-of};
+ghost use Rattle.mesh.specs.Reads.{lent, left, state-of};
 ghost use Rattle.scenario.specs.Answers.{told, executed};
 use mesh::Audit;
 use mesh::Mesh;
@@ -16,7 +16,7 @@ pub(crate) fn execute<V: Kind>(
     sheets: Sheets<'_, V>,
     command: Command<V>,
 ) -> Result<Option<Audit<V>>, Fault>
-    ensures { λ r. ⌜ record { answer = told r; state = state-of (V·Amount .addition) (now (mesh .exit)) (now (sheets .exit .0)); sheets = lists (now (sheets .exit .0)) (now (sheets .exit .1 .0)) (now (sheets .exit .1 .1 .0)) (now (sheets .exit .1 .1 .1 .0)) (now (sheets .exit .1 .1 .1 .1 .0)) } ≡ executed (V·Amount .addition) (state-of (V·Amount .addition) (now (mesh .entry)) (now (sheets .entry .contents))) (lists (now (sheets .entry .contents)) (now (sheets .entry .before)) (now (sheets .entry .corrections)) (now (sheets .entry .marks)) (now (sheets .entry .wanted))) command ⌝ }
+    ensures { λ r. ⌜ record { answer = told r; state = state-of (V·Amount .addition) (now (mesh .exit)) (left (sheets .exit)); sheets = left (sheets .exit) } ≡ executed (V·Amount .addition) (state-of (V·Amount .addition) (now (mesh .entry)) (lent (sheets .entry))) (lent (sheets .entry)) command ⌝ }
 {
     let Sheets {
         contents,

@@ -5,7 +5,7 @@ ghost use Prim.Native.Nat.{_≤_};
 ghost use lib.ListN.{length};
 ghost use Rattle.std.specs.Of.String.{string-bytes};
 ghost use Rattle.std.specs.Vec.{made};
-ghost use Rattle.mesh.specs.Reads.{lists, state-of};
+ghost use Rattle.mesh.specs.Reads.{lent, left, state-of};
 ghost use Rattle.scenario.specs.Program.{lines as lines-of, line-run, run-lines};
 ghost use Rattle.reader.specs.declared.word.Phase.the-variants.{Rule};
 ghost use Rattle.scenario.specs.Ran.{Ran};
@@ -29,7 +29,7 @@ fn run_line<V: Kind>(
     sheets: Sheets<'_, V>,
     line: &[u8],
 ) -> Result<Option<Phase>, AllocError>
-    ensures { λ r. ⌜ made r (λ next. Ran (line-run (V·Amount .addition) (V·Kind .form) number phase (state-of (V·Amount .addition) (now (mesh .entry)) (now (sheets .entry .contents))) (lists (now (sheets .entry .contents)) (now (sheets .entry .before)) (now (sheets .entry .corrections)) (now (sheets .entry .marks)) (now (sheets .entry .wanted))) (now (line .entry))) (string-bytes (now (out .entry))) next (string-bytes (now (out .exit))) (state-of (V·Amount .addition) (now (mesh .exit)) (now (sheets .exit .0))) (lists (now (sheets .exit .0)) (now (sheets .exit .1 .0)) (now (sheets .exit .1 .1 .0)) (now (sheets .exit .1 .1 .1 .0)) (now (sheets .exit .1 .1 .1 .1 .0)))) ⌝ }
+    ensures { λ r. ⌜ made r (λ next. Ran (line-run (V·Amount .addition) (V·Kind .form) number phase (state-of (V·Amount .addition) (now (mesh .entry)) (lent (sheets .entry))) (lent (sheets .entry)) (now (line .entry))) (string-bytes (now (out .entry))) next (string-bytes (now (out .exit))) (state-of (V·Amount .addition) (now (mesh .exit)) (left (sheets .exit))) (left (sheets .exit))) ⌝ }
 {
     let (next, command) = match read_line(phase, line) {
         Ok(said) => said,
@@ -65,7 +65,7 @@ pub(crate) fn run_lines<V: Kind>(
     text: &[u8],
 ) -> Result<(), AllocError>
     requires { ⌜ length (now text) ≤ 12288 ⌝ }
-    ensures { λ r. ⌜ made r (λ _. string-bytes (now (out .exit)) ≡ string-bytes (now (out .entry)) ++ run-lines (V·Amount .addition) (V·Kind .form) 2 Rule (state-of (V·Amount .addition) (now (mesh .entry)) (now (sheets .entry .contents))) (lists (now (sheets .entry .contents)) (now (sheets .entry .before)) (now (sheets .entry .corrections)) (now (sheets .entry .marks)) (now (sheets .entry .wanted))) (lines-of (now (text .entry)))) ⌝ }
+    ensures { λ r. ⌜ made r (λ _. string-bytes (now (out .exit)) ≡ string-bytes (now (out .entry)) ++ run-lines (V·Amount .addition) (V·Kind .form) 2 Rule (state-of (V·Amount .addition) (now (mesh .entry)) (lent (sheets .entry))) (lent (sheets .entry)) (lines-of (now (text .entry)))) ⌝ }
 {
     let Sheets {
         contents,

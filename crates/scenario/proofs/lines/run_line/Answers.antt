@@ -1,7 +1,7 @@
 use mathlib.Core.Path.{_≡_, refl, ap, _∙_}
 use mathlib.Core.List.{_++_}
 use Rattle.std.specs.Of.String.{string-bytes}
-use Rattle.mesh.specs.Reads.{lists, state-of}
+use Rattle.mesh.specs.Reads.{lent, state-of}
 use Rattle.scenario.specs.Printed.{printed}
 use Rattle.scenario.specs.Program.{unless-fault}
 use Rattle.scenario.proofs.lines.run_line.Needs as need
@@ -12,8 +12,8 @@ returns g c =
     let K = g .V·Kind .form in
     let n = c .args .number in
     let old = string-bytes (c .args .out .now) in
-    let sheets = lists (c .args .sheets .contents .now) (c .args .sheets .before .now) (c .args .sheets .corrections .now) (c .args .sheets .marks .now) (c .args .sheets .wanted .now) in
-    let s = state-of G (c .args .mesh .now) (c .args .sheets .contents .now) in
+    let sheets = lent (c .args .sheets) in
+    let s = state-of G (c .args .mesh .now) sheets in
     let said = c .in-Ok .ensures tt in
     let done = c .execute-answer .ensures in
     record {

@@ -4,7 +4,7 @@ use lib.Dec.{eqb}
 use lib.ListN.{replicate}
 use Rattle.grid.specs.Sizes.{sheet-length, sheet}
 use Rattle.model.specs.Refusals.{all-long}
-use Rattle.mesh.specs.Reads.{lists}
+use Rattle.mesh.specs.Reads.{lent}
 use Rattle.mesh.proofs.Opens.{opened-by}
 use Rattle.mesh.proofs.Calls.{all-long-parts}
 use Rattle.mesh.proofs.mesh.Mesh.open.Needs as need
@@ -13,7 +13,7 @@ pub returns : need.returns
 returns g c =
     let G = g .V·Amount .addition in
     let o = c .in-Some .layout in
-    let sheets = lists (c .args .sheets .contents .now) (c .args .sheets .before .now) (c .args .sheets .corrections .now) (c .args .sheets .marks .now) (c .args .sheets .wanted .now) in
+    let sheets = lent (c .args .sheets) in
     let flat = c .in-Some .ensures tt in
     let n : c .sheet-length .result ≡ sheet-length (c .args .size) = c .sheet-length .ensures .0 ∙ ap sheet-length (flat .1) in
     let long : all-long (sheet-length (c .args .size)) sheets ≡ true = ap (λ k. all-long k sheets) (sym n) ∙ (sym (c .are-long .ensures) ∙ c .if-not-are-long .left) in

@@ -9,23 +9,23 @@ use Rattle.grid.proofs.Indices.{index-given, index-absent}
 use Rattle.model.specs.States.{poured-into}
 use Rattle.model.specs.Refusals.{all-long, pour-refusal}
 use Rattle.model.proofs.Sheets.{sheet-of-fields}
-use Rattle.mesh.specs.Reads.{lists, state-of}
+use Rattle.mesh.specs.Reads.{lent, lists, state-of}
 use Rattle.mesh.proofs.Calls.{refused-by, accepted-by, same-true, same-false, pour-2, pour-4, pour-5, pour-none, all-long-parts}
 use Rattle.mesh.proofs.mesh.Mesh.pour.Needs as need
 
 pub returns-then-not-are-long : need.returns-then-not-are-long
 returns-then-not-are-long g c =
     let o = c .args .self .now .layout in
-    let sheets = lists (c .args .sheets .contents .now) (c .args .sheets .before .now) (c .args .sheets .corrections .now) (c .args .sheets .marks .now) (c .args .sheets .wanted .now) in
-    let s = state-of (g .V·Amount .addition) (c .args .self .now) (c .args .sheets .contents .now) in
+    let sheets = lent (c .args .sheets) in
+    let s = state-of (g .V·Amount .addition) (c .args .self .now) sheets in
     let short : all-long (sheet-length (o .size)) sheets ≡ false = ap (λ k. all-long k sheets) (sym (c .sheet-length .ensures .0)) ∙ (sym (c .are-long .ensures) ∙ c .if-not-are-long .taken) in
     refused-by s sheets _ (pour-refusal s sheets (c .args .x) (c .args .y)) 2 (pour-2 s sheets (c .args .x) (c .args .y) short)
 
 pub returns-in-rest : need.returns-in-rest
 returns-in-rest g c =
     let o = c .args .self .now .layout in
-    let sheets = lists (c .args .sheets .contents .now) (c .args .sheets .before .now) (c .args .sheets .corrections .now) (c .args .sheets .marks .now) (c .args .sheets .wanted .now) in
-    let s = state-of (g .V·Amount .addition) (c .args .self .now) (c .args .sheets .contents .now) in
+    let sheets = lent (c .args .sheets) in
+    let s = state-of (g .V·Amount .addition) (c .args .self .now) sheets in
     let long : all-long (sheet-length (o .size)) sheets ≡ true = ap (λ k. all-long k sheets) (sym (c .sheet-length .ensures .0)) ∙ (sym (c .are-long .ensures) ∙ c .if-not-are-long .left) in
     let outside = index-absent (in-mesh (o .size) 0 (c .args .x) (c .args .y)) (index (o .size) 0 (c .args .x) (c .args .y)) (c .in-rest .ensures tt) in
     refused-by s sheets _ (pour-refusal s sheets (c .args .x) (c .args .y)) 4 (pour-4 s sheets (c .args .x) (c .args .y) long outside)
@@ -33,8 +33,8 @@ returns-in-rest g c =
 pub returns-then-not-marks-agree : need.returns-then-not-marks-agree
 returns-then-not-marks-agree g c =
     let o = c .args .self .now .layout in
-    let sheets = lists (c .args .sheets .contents .now) (c .args .sheets .before .now) (c .args .sheets .corrections .now) (c .args .sheets .marks .now) (c .args .sheets .wanted .now) in
-    let s = state-of (g .V·Amount .addition) (c .args .self .now) (c .args .sheets .contents .now) in
+    let sheets = lent (c .args .sheets) in
+    let s = state-of (g .V·Amount .addition) (c .args .self .now) sheets in
     let long : all-long (sheet-length (o .size)) sheets ≡ true = ap (λ k. all-long k sheets) (sym (c .sheet-length .ensures .0)) ∙ (sym (c .are-long .ensures) ∙ c .if-not-are-long .left) in
     let inside = index-given (in-mesh (o .size) 0 (c .args .x) (c .args .y)) _ (index (o .size) 0 (c .args .x) (c .args .y)) (c .in-Some .ensures tt) in
     let differ = same-false (c .args .sheets .marks .now) (marks-of o) (λ e. both-ways (c .marks-agree .result) (c .if-not-marks-agree .taken) (c .marks-agree .ensures .1 e)) in
@@ -47,9 +47,8 @@ returns g c =
     let o = c .args .self .now .layout in
     let x = c .args .x in
     let y = c .args .y in
-    let contents = c .args .sheets .contents .now in
-    let sheets = lists contents (c .args .sheets .before .now) (c .args .sheets .corrections .now) (c .args .sheets .marks .now) (c .args .sheets .wanted .now) in
-    let s = state-of G (c .args .self .now) contents in
+    let sheets = lent (c .args .sheets) in
+    let s = state-of G (c .args .self .now) sheets in
     let long : all-long (sheet-length (o .size)) sheets ≡ true = ap (λ k. all-long k sheets) (sym (c .sheet-length .ensures .0)) ∙ (sym (c .are-long .ensures) ∙ c .if-not-are-long .left) in
     let inside = index-given (in-mesh (o .size) 0 x y) _ (index (o .size) 0 x y) (c .in-Some .ensures tt) in
     let agree = same-true (c .args .sheets .marks .now) (marks-of o) (c .marks-agree .ensures .0 (c .if-not-marks-agree .left)) in
