@@ -13,3 +13,6 @@ pub use audit::Audit;
 pub use mesh::Mesh;
 pub use refusal::Refusal;
 pub use sheets::Sheets;
+
+#[cfg(test)]
+mod tests;
