@@ -17,3 +17,6 @@ pub use refusal::RefusalDebug;
 pub use refusal::RefusalEq;
 pub use refusal::RefusalPartialEq;
 pub use sheets::Sheets;
+
+#[cfg(test)]
+mod tests;
