@@ -1,5 +1,5 @@
 // The four sides of a cell and of the grid.
-#[derive(Clone, Copy, PartialEq, Eq, Debug)]
+#[derive(Clone, Copy)]
 pub enum Side {
     West,
     East,
