@@ -1,13 +1,24 @@
 ghost use mathlib.Core.Path.{_≡_};
 ghost use mathlib.Core.Bool.{cond, true};
-ghost use Prim.Native.Nat.{_+_, _<_, _≤_};
+ghost use Prim.Native.Nat.{_+_, _/_, _%_, _<_, _≤_};
 ghost use Rattle.std.specs.declared.option.Option.the-variants.{Some, None};
 ghost use Rattle.std.specs.Options.{Cases as BySome};
 ghost use Rattle.grid.specs.Sizes.{level-width, level-height, in-mesh, sheet-length, index as index-of};
-ghost use Rattle.grid.specs.Cells.{neighbour-of, children-of};
+ghost use Rattle.grid.specs.Cells.{place as place-of, neighbour-of, children-of};
 use crate::layout::Layout;
 use crate::place::Place;
 use crate::side::Side;
+
+// The place of the cell at an offset in a level of this width.
+fn place_at(offset: usize, width: usize) -> Place
+    requires { ⌜ 0 < width ⌝ }
+    ensures { λ r. ⌜ r ≡ place-of (offset % width) (offset / width) ⌝ }
+{
+    Place {
+        x: offset % width,
+        y: offset / width,
+    }
+}
 
 impl Layout {
     // Whether the mesh has a cell at this place of this level.
@@ -35,12 +46,8 @@ impl Layout {
     {
         for level in 0..self.size.levels {
             if index < self.level_start(level + 1) {
-                let width = self.level_width(level);
                 let offset = index - self.level_start(level);
-                let place = Place {
-                    x: offset % width,
-                    y: offset / width,
-                };
+                let place = place_at(offset, self.level_width(level));
                 return Some((level, place));
             }
         }

@@ -1,11 +1,24 @@
 ghost use mathlib.Core.Path.{_≡_};
-ghost use Prim.Native.Nat.{_<_};
-ghost use lib.ListN.{length};
+ghost use Prim.Native.Nat.{ℕ, _+_, _<_, _≤_};
+ghost use lib.ListN.{length, getD};
 ghost use Rattle.std.specs.Orderings.{Decides};
 ghost use Rattle.grid.specs.Sizes.{level-height, sheet-length};
 ghost use Rattle.grid.specs.Layouts.{Row-marked, Level-marked, marks-of};
 use crate::layout::Layout;
 use crate::paint::expected_row;
+
+// Whether a sheet has, from one index on, the front of a row of this width.
+fn has_row(marks: &[u8], from: usize, row: &[u8; 256], width: usize) -> bool
+    requires { ⌜ from + width ≤ length (now marks) ⌝ ∗ ⌜ width ≤ 256 ⌝ }
+    ensures { λ r. ⌜ Decides r ((x : ℕ) → x < width → getD (now (marks .entry)) (from + x) 0 ≡ getD (now (row .entry)) x 0) ⌝ }
+{
+    for x in 0..width {
+        if marks[from + x] != row[x] {
+            return false;
+        }
+    }
+    true
+}
 
 impl Layout {
     // Whether a sheet has the marks of row y of a level.
@@ -19,7 +32,7 @@ impl Layout {
         expected_row(self, level, y, &mut row);
         let width = self.level_width(level);
         let from = self.level_start(level) + y * width;
-        marks[from..from + width] == row[..width]
+        has_row(marks, from, &row, width)
     }
 
     // Whether a sheet has the marks of a level.

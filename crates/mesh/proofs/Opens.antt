@@ -5,13 +5,9 @@ use mathlib.Core.List.{List, []}
 use mathlib.Core.Logic.{⊎-elim}
 use Prim.Native.Nat.{ℕ, zero, suc, _+_, _-_, _*_, _^_, _<_, _≤_}
 use native.Mathlib.Omega.{arith}
-use borrow.Author.Needs.{needs}
-use borrow.Rule.Slice.PartMut.{putMid}
-use lib.Dec.{eqb}
+use lib.Dec.{eqb, ltb}
 use lib.ListN.{length, getD, replicate}
-use Rattle.std.proofs.shelf.Lists.{places, length-replicate, getD-replicate}
-use Rattle.std.proofs.shelf.Parts.{overwrites}
-use Rattle.std.proofs.shelf.Tests.{cond-true, cond-false, eq-eqb, ne-eqb, cases-eq}
+use Rattle.std.proofs.shelf.Tests.{cond-true, cond-false, lt-ltb, le-ltb, eq-eqb, ne-eqb, cases-eq}
 use Rattle.std.specs.declared.result.Result.the-variants.{Ok}
 use Rattle.amount.specs.Additions.{Addition}
 use Rattle.grid.specs.declared.layout.Layout.{Layout}
@@ -20,8 +16,7 @@ use Rattle.grid.specs.declared.size.Size.{Size}
 use Rattle.grid.specs.Sizes.{in-range, level-start, sheet-length, index, sheet}
 use Rattle.grid.specs.Tables.{used}
 use Rattle.grid.specs.Layouts.{patches-of}
-use Rattle.grid.proofs.Parts.{part-at, part-above}
-use Rattle.grid.proofs.Sheets.{is-sheet, level-ends, starts-mono, row-ends-in, level-fits}
+use Rattle.grid.proofs.Sheets.{is-sheet, starts-mono, row-ends-in, level-fits}
 use Rattle.model.specs.Fields.{fields-of}
 use Rattle.model.specs.States.{State, opened}
 use Rattle.model.specs.Refusals.{Sheets, whole}
@@ -65,25 +60,18 @@ module _ {A : Type 0} (G : Addition A) (o : Layout) (size : Size) (size-is : o .
       ∙ sym (ap (λ r. unless-closed r sheets (record { mesh = Ok (opened G size); sheets = opened-sheets G size })) (cond-true _ _ _ ranged ∙ cond-true _ _ _ long))
 
 -- the base cells stand first, and after them all others
-pub base-marked : (s : Size) (xs ys : List ℕ) (k : ℕ) → 1 ≤ s .levels → k ≡ s .width * s .height → xs ≡ replicate (sheet-length s) 0 → ys ≡ replicate k 1
-    → putMid 0 k xs ys ≡ sheet s (λ l x y. cond (eqb l 0) 1 0)
-base-marked s xs ys k some e ex ey =
-    let fits = level-fits s 0 some in
-    let base : level-start s 1 ≡ k = omega arith in
-    let lx : length xs ≡ sheet-length s = ap length ex ∙ length-replicate (sheet-length s) 0 in
-    let ly : length ys ≡ k = ap length ey ∙ length-replicate k 1 in
-    let long : length (putMid 0 k xs ys) ≡ length xs = search (needs, places) in
-    is-sheet s (λ l x y. cond (eqb l 0) 1 0) 0 (putMid 0 k xs ys) (long ∙ lx) (λ l x y ll lcol lrow.
-    let row = row-ends-in s l y lrow in
-    ⊎-elim
+pub base-marked : (s : Size) (xs : List ℕ) → 1 ≤ s .levels → length xs ≡ sheet-length s
+    → ((k : ℕ) → k < length xs → getD xs k 0 ≡ cond (ltb k (s .width * s .height)) 1 0) → xs ≡ sheet s (λ l x y. cond (eqb l 0) 1 0)
+base-marked s xs some long each =
+    is-sheet s (λ l x y. cond (eqb l 0) 1 0) 0 xs long (λ l x y ll lx ly.
+    let row = row-ends-in s l y ly in
+    let below = level-fits s l ll in
+    each (index s l x y) (omega arith)
+    ∙ ⊎-elim
     (λ z.
-    let n : index s l x y < k = omega (arith, ap (λ m. level-start s (m + 1)) z) in
-    ap (λ m. getD (putMid 0 k xs ys) m 0) (let q : index s l x y ≡ 0 + index s l x y = omega arith in q)
-    ∙ (part-at 0 k (index s l x y) xs ys 0 (omega arith) (omega arith)
-    ∙ (ap (λ zs. getD zs (index s l x y) 0) ey ∙ (getD-replicate k (index s l x y) 1 0 n ∙ sym (cond-true (eqb l 0) 1 0 (eq-eqb l 0 z))))))
+    let base : level-start s (l + 1) ≡ s .width * s .height = ap (λ m. level-start s (m + 1)) z ∙ omega arith in
+    cond-true _ 1 0 (lt-ltb (index s l x y) (s .width * s .height) (omega arith)) ∙ sym (cond-true (eqb l 0) 1 0 (eq-eqb l 0 z)))
     (λ nz.
     let after = starts-mono s 0 l (omega arith) in
-    let below = level-fits s l ll in
-    part-above 0 k (index s l x y) xs ys 0 (omega arith) ly (omega arith)
-    ∙ (ap (λ zs. getD zs (index s l x y) 0) ex ∙ (getD-replicate (sheet-length s) (index s l x y) 0 0 (omega arith) ∙ sym (cond-false (eqb l 0) 1 0 (ne-eqb l 0 nz)))))
+    cond-false _ 1 0 (le-ltb (index s l x y) (s .width * s .height) (omega arith)) ∙ sym (cond-false (eqb l 0) 1 0 (ne-eqb l 0 nz)))
     (cases-eq l 0))

@@ -1,7 +1,7 @@
 ghost use mathlib.Core.Path.{_≡_};
 ghost use Rattle.model.specs.Calls.{audit-call};
 ghost use Rattle.mesh.specs.Reads.{lent, state-of, outcome};
-ghost use Rattle.mesh.specs.Reports.{reported};
+ghost use Rattle.mesh.specs.Reports.{report-of, reported};
 use crate::mesh::Mesh;
 use crate::refusal::Refusal;
 use crate::sheets::Sheets;
@@ -22,6 +22,18 @@ pub struct Audit<V> {
 }
 
 impl<V: Amount> Mesh<V> {
+    // What the mesh keeps, with a total.
+    fn report(&self, total: V) -> Audit<V>
+        ensures { λ r. ⌜ report-of r ≡ record { steps = now (self .entry) .steps; total = total; poured = now (self .entry) .poured; inward = now (self .entry) .inward } ⌝ }
+    {
+        Audit {
+            steps: self.steps,
+            total,
+            poured: self.poured,
+            inward: self.inward,
+        }
+    }
+
     // Reports the accepted steps, the composite total and the sums poured and inward. It changes nothing.
     // Refused: 2 a sheet of the wrong length, 5 marks that differ from what the patches say.
     pub fn audit(&self, sheets: &Sheets<'_, V>) -> Result<Audit<V>, Refusal>
@@ -33,11 +45,7 @@ impl<V: Amount> Mesh<V> {
         if !self.layout.marks_agree(sheets.marks) {
             return Err(Refusal::Marks);
         }
-        Ok(Audit {
-            steps: self.steps,
-            total: leaf_total(&self.layout, sheets.marks, sheets.contents),
-            poured: self.poured,
-            inward: self.inward,
-        })
+        let total = leaf_total(&self.layout, sheets.marks, sheets.contents);
+        Ok(self.report(total))
     }
 }

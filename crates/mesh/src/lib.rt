@@ -1,6 +1,7 @@
 // A mesh and its calls: open, pour and audit, over five lent sheets.
 mod audit;
 mod clear;
+mod marks;
 mod mesh;
 mod number;
 mod open;

@@ -2,11 +2,12 @@ ghost use mathlib.Core.Path.{_≡_};
 ghost use mathlib.Core.Bool.{cond};
 ghost use Prim.Native.Nat.{_*_, _≤_};
 ghost use lib.Dec.{eqb};
-ghost use lib.ListN.{length};
+ghost use lib.ListN.{length, replicate};
 ghost use Rattle.grid.specs.Sizes.{sheet-length, sheet};
 ghost use Rattle.model.specs.Calls.{open-call};
 ghost use Rattle.mesh.specs.Reads.{lent, left, opening};
 use crate::clear::clear;
+use crate::marks::first_mark;
 use crate::mesh::Mesh;
 use crate::refusal::Refusal;
 use crate::sheets::Sheets;
@@ -14,14 +15,26 @@ use amount::Amount;
 use grid::Layout;
 use grid::Size;
 
-// Marks the base cells, which stand first, as live and uncovered, and no other cell as live.
+// Writes zero into every entry of the sheets of amounts.
+fn clear_amounts<V: Copy>(contents: &mut [V], before: &mut [V], corrections: &mut [V], zero: V)
+    ensures contents { λ _. ⌜ now (contents .exit) ≡ replicate (length (now (contents .entry))) zero ⌝ }
+    ensures before { λ _. ⌜ now (before .exit) ≡ replicate (length (now (before .entry))) zero ⌝ }
+    ensures corrections { λ _. ⌜ now (corrections .exit) ≡ replicate (length (now (corrections .entry))) zero ⌝ }
+{
+    clear(contents, zero);
+    clear(before, zero);
+    clear(corrections, zero);
+}
+
+// Marks the base cells as live and uncovered, and no other cell as live.
 fn mark_base(layout: &Layout, marks: &mut [u8])
     requires { ⌜ length (now marks) ≡ sheet-length (now layout .size) ⌝ }
     ensures { λ _. ⌜ now (marks .exit) ≡ sheet (now (layout .entry) .size) (λ l x y. cond (eqb l 0) 1 0) ⌝ }
 {
     let base_cells = layout.size.width * layout.size.height;
-    clear(marks, 0);
-    clear(&mut marks[0..base_cells], 1);
+    for index in 0..marks.len() {
+        marks[index] = first_mark(index, base_cells);
+    }
 }
 
 impl<V: Amount> Mesh<V> {
@@ -44,9 +57,7 @@ impl<V: Amount> Mesh<V> {
             wanted,
         } = sheets;
         let zero = V::zero();
-        clear(contents, zero);
-        clear(before, zero);
-        clear(corrections, zero);
+        clear_amounts(contents, before, corrections, zero);
         mark_base(&layout, marks);
         clear(wanted, 0);
         Ok(Mesh {

@@ -8,15 +8,13 @@ ghost use Rattle.model.specs.Fields.{fields-of};
 ghost use Rattle.model.specs.Pour.{pour as pour-rule};
 ghost use Rattle.model.specs.Calls.{pour-call};
 ghost use Rattle.mesh.specs.Reads.{lent, left, state-of, outcome};
+use crate::marks::is_covered;
 use crate::mesh::Mesh;
 use crate::refusal::Refusal;
 use crate::sheets::Sheets;
 use amount::Amount;
 use grid::Layout;
 use grid::Place;
-
-// The mark of a covered cell.
-const COVERED: u8 = 2;
 
 // Adds an amount to one entry of a sheet.
 fn add_at<V: Amount>(contents: &mut [V], index: usize, amount: V)
@@ -39,7 +37,7 @@ fn pour_down<V: Amount>(layout: &Layout, marks: &[u8], contents: &mut [V], base:
             return;
         };
         add_at(contents, index, amount);
-        if marks[index] != COVERED {
+        if !is_covered(marks[index]) {
             return;
         }
         place = Place {
@@ -50,6 +48,13 @@ fn pour_down<V: Amount>(layout: &Layout, marks: &[u8], contents: &mut [V], base:
 }
 
 impl<V: Amount> Mesh<V> {
+    // Adds an amount to the sum poured.
+    fn add_poured(&mut self, amount: V)
+        ensures { λ _. ⌜ now (self .exit) ≡ record { layout = now (self .entry) .layout; steps = now (self .entry) .steps; poured = V·Amount .addition ._⊕_ (now (self .entry) .poured) amount; inward = now (self .entry) .inward } ⌝ }
+    {
+        self.poured = self.poured.add(amount);
+    }
+
     // Adds an amount to the sum poured and to the base cell at column x and row y and, while a cell is covered,
     // to its south-west child and so on down.
     // Refused: 2 a sheet of the wrong length, 4 a place outside the grid, 5 marks that differ from what the patches say.
@@ -80,7 +85,7 @@ impl<V: Amount> Mesh<V> {
             return Err(Refusal::Marks);
         }
         pour_down(&self.layout, marks, contents, base, amount);
-        self.poured = self.poured.add(amount);
+        self.add_poured(amount);
         Ok(())
     }
 }

@@ -4,11 +4,9 @@ ghost use Rattle.grid.specs.Sizes.{sheet-length};
 ghost use Rattle.grid.specs.Layouts.{hierarchy-of, marks-of};
 ghost use Rattle.model.specs.Fields.{fields-of};
 ghost use Rattle.model.specs.Total.{composite-total};
+use crate::marks::is_leaf;
 use amount::Amount;
 use grid::Layout;
-
-// The mark of a live uncovered cell.
-const LEAF: u8 = 1;
 
 // What all live uncovered cells hold.
 pub(crate) fn leaf_total<V: Amount>(layout: &Layout, marks: &[u8], contents: &[V]) -> V
@@ -18,7 +16,7 @@ pub(crate) fn leaf_total<V: Amount>(layout: &Layout, marks: &[u8], contents: &[V
 {
     let mut total = V::zero();
     for (i, content) in contents.iter().enumerate() {
-        if marks[i] == LEAF {
+        if is_leaf(marks[i]) {
             total = total.add(*content);
         }
     }

@@ -1,25 +1,19 @@
 use mathlib.Core.Path.{_≡_, ap, _∙_}
-use Prim.Native.Nat.{_-_, _*_, _≤_}
+use mathlib.Core.Bool.{cond}
+use Prim.Native.Nat.{ℕ, _+_, _*_, _<_}
 use native.Mathlib.Omega.{arith}
-use borrow.Author.Needs.{needs}
-use lib.ListN.{length, replicate}
-use Rattle.std.proofs.shelf.Lists.{length-replicate, length-take-le}
-use Rattle.grid.specs.Sizes.{sheet-length, level-start}
-use Rattle.grid.proofs.Sheets.{level-fits}
+use lib.Dec.{ltb}
+use lib.ListN.{getD, set}
+use Rattle.std.proofs.shelf.Edits.{fill-by-more}
 use Rattle.mesh.proofs.Opens.{base-marked}
 use Rattle.mesh.proofs.open.mark_base.Needs as need
 
-pub part-clear-end : need.part-clear-end
-part-clear-end c =
-    let s = c .args .layout .now .size in
-    let fits : level-start s 1 ≤ sheet-length s = level-fits s 0 (c .args .layout .now .deep .0) in
-    let base : s .width * s .height ≤ length (c .args .marks .now) = omega (arith, c .pre) in
-    search needs
+pub loop-index-again : need.loop-index-again
+loop-index-again c = λ k lk.
+    let base : ℕ = c .args .layout .now .size .width * c .args .layout .now .size .height in
+    ap (λ v. getD (set (c .loop-index .marks) (c .loop-index .index) v) k 0) (c .first-mark .ensures)
+    ∙ fill-by-more (λ j. cond (ltb j base) 1 0) (c .loop-index .marks) (c .loop-index .index) 0 (omega arith) (c .loop-index .inv) k lk
 
 pub returns : need.returns
 returns c =
-    let s = c .args .layout .now .size in
-    let fits : level-start s 1 ≤ sheet-length s = level-fits s 0 (c .args .layout .now .deep .0) in
-    base-marked s (c .clear .last .sheet) (c .clear-2 .last .sheet) (s .width * s .height - 0) (c .args .layout .now .deep .0) (omega arith)
-    (c .clear .ensures ∙ ap (λ n. replicate n 0) (c .pre))
-    (c .clear-2 .ensures ∙ ap (λ n. replicate n 1) (length-take-le _ (c .clear .last .sheet) (omega (arith, c .pre, ap length (c .clear .ensures) ∙ length-replicate (length (c .args .marks .now)) 0))))
+    base-marked (c .args .layout .now .size) (c .loop-index .marks) (c .args .layout .now .deep .0) (omega (arith, c .pre)) (λ k lk. c .loop-index .inv k (omega arith))

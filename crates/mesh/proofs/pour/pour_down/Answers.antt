@@ -1,8 +1,8 @@
-use mathlib.Core.Path.{_≡_, _∙_}
+use mathlib.Core.Path.{_≡_, sym, _∙_}
 use Prim.Native.Nat.{_-_, _<_}
 use native.Mathlib.Omega.{arith}
 use lib.ListN.{length}
-use Rattle.std.proofs.shelf.Tests.{cond-true}
+use Rattle.std.proofs.shelf.Tests.{cond-true, eqb-true, eqb-false}
 use Rattle.grid.specs.Sizes.{sheet-length, index}
 use Rattle.grid.specs.Layouts.{hierarchy-of}
 use Rattle.grid.proofs.Sheets.{index-below}
@@ -31,13 +31,13 @@ index-marks-index g c =
     let below = index-below s (c .loop-level .level) (c .loop-level .place .x) (c .loop-level .place .y) (p .0) (p .1) (p .2) in
     omega (arith, given .1, length-of (c .args .layout .now) (c .args .marks .now) (c .pre .marked))
 
-pub returns-then-marks-index-ne-COVERED : need.returns-then-marks-index-ne-COVERED
-returns-then-marks-index-ne-COVERED g c =
+pub returns-then-not-is-covered : need.returns-then-not-is-covered
+returns-then-not-is-covered g c =
     let o = c .args .layout .now in
     let given = index-given _ _ (index (o .size) (c .loop-level .level) (c .loop-level .place .x) (c .loop-level .place .y)) (c .in-Some .ensures tt) in
     ends-here (g .V·Amount .addition) o (c .args .marks .now) (c .pre .marked) (c .loop-level .contents) (c .loop-level .inv .0)
     (c .loop-level .level) (c .loop-level .place .x) (c .loop-level .place .y) (given .0) (c .args .amount) (c .in-Some .index) (given .1)
-    (c .add-at .last .contents) (c .add-at .ensures) (o .size .levels) (c .loop-level-test .taken) (c .if-marks-index-ne-COVERED .taken)
+    (c .add-at .last .contents) (c .add-at .ensures) (o .size .levels) (c .loop-level-test .taken) (eqb-false _ 2 (sym (c .is-covered .ensures) ∙ c .if-not-is-covered .taken))
     ∙ c .loop-level .inv .2
 
 pub loop-level-again : need.loop-level-again
@@ -52,9 +52,9 @@ loop-level-again g c =
     let long = c .loop-level .inv .0 in (
       stays-long G o (c .args .marks .now) marked (c .loop-level .contents) long l x y (given .0) (c .args .amount) (c .in-Some .index) (given .1) (c .add-at .last .contents) (c .add-at .ensures),
       (λ _. child-inside G o (c .args .marks .now) marked (c .loop-level .contents) long l x y (given .0) (c .args .amount) (c .in-Some .index) (given .1) (c .add-at .last .contents) (c .add-at .ensures)
-          (c .if-marks-index-ne-COVERED .left)),
+          (eqb-true _ 2 (sym (c .is-covered .ensures) ∙ c .if-not-is-covered .left))),
       goes-on G o (c .args .marks .now) marked (c .loop-level .contents) long l x y (given .0) (c .args .amount) (c .in-Some .index) (given .1) (c .add-at .last .contents) (c .add-at .ensures)
-          (o .size .levels) (c .loop-level-test .taken) (c .if-marks-index-ne-COVERED .left)
+          (o .size .levels) (c .loop-level-test .taken) (eqb-true _ 2 (sym (c .is-covered .ensures) ∙ c .if-not-is-covered .left))
           ∙ c .loop-level .inv .2,
     )
 

@@ -4,6 +4,7 @@ use native.Mathlib.Omega.{arith}
 use lib.ListN.{length, getD}
 use lib.Seq.{take-all}
 use Rattle.std.proofs.shelf.Lists.{getD-default}
+use Rattle.std.proofs.shelf.Tests.{eqb-true, eqb-false}
 use Rattle.amount.specs.Additions.{sum}
 use Rattle.amount.proofs.Totals.{sum-more}
 use Rattle.grid.specs.Sizes.{sheet-length, sheet}
@@ -14,7 +15,7 @@ use Rattle.model.specs.Fields.{fields-of}
 use Rattle.model.proofs.Totals.{sheet-total}
 use Rattle.mesh.proofs.Totals.{counted, leaf-counts, other-counts-not}
 use Rattle.mesh.proofs.total.leaf_total.Needs as need
-use Rattle.mesh.proofs.total.leaf_total.Needs.{then-marks-i-eq-LEAF, else-marks-i-eq-LEAF}
+use Rattle.mesh.proofs.total.leaf_total.Needs.{then-is-leaf, else-is-leaf}
 
 pub index-marks-i : need.index-marks-i
 index-marks-i g c = omega (arith, c .pre .whole, length-of (c .args .layout .now) (c .args .marks .now) (c .pre .marked), c .loop-i-test .taken)
@@ -33,15 +34,15 @@ loop-i-again g c =
     let inside : i < length all = omega arith in
     let v = c .index-contents-i .result in (
       omega arith,
-      elim (c .if-marks-i-eq-LEAF .came) [
-        | then-marks-i-eq-LEAF w ↦
+      elim (c .if-is-leaf .came) [
+        | then-is-leaf w ↦
             w .total-is ∙ (w .add-total .ensures ∙ (ap (λ t. G ._⊕_ t v) (c .loop-i .inv .1)
             ∙ sum-more G laws all i v inside
             (c .index-contents-i .is ∙ (getD-default contents i v (G .zero) (c .loop-i-test .taken)
-            ∙ (sym (leaf-counts G o (c .args .marks .now) (c .pre .marked) contents i within (w .if-marks-i-eq-LEAF .taken)) ∙ getD-default all i (G .zero) v inside)))))
-        | else-marks-i-eq-LEAF w ↦
+            ∙ (sym (leaf-counts G o (c .args .marks .now) (c .pre .marked) contents i within (eqb-true _ 1 (sym (c .is-leaf .ensures) ∙ w .if-is-leaf .taken))) ∙ getD-default all i (G .zero) v inside)))))
+        | else-is-leaf w ↦
             w .total-is ∙ (c .loop-i .inv .1 ∙ (sym (laws .neutral _)
-            ∙ sum-more G laws all i (G .zero) inside (sym (other-counts-not G o (c .args .marks .now) (c .pre .marked) contents i within (w .if-marks-i-eq-LEAF .left)))))
+            ∙ sum-more G laws all i (G .zero) inside (sym (other-counts-not G o (c .args .marks .now) (c .pre .marked) contents i within (eqb-false _ 1 (sym (c .is-leaf .ensures) ∙ w .if-is-leaf .left))))))
       ],
     )
 

@@ -25,8 +25,9 @@ returns g c =
     let s = state-of (g .V·Amount .addition) (c .args .self .now) sheets in
     let long : all-long (sheet-length (o .size)) sheets ≡ true = ap (λ k. all-long k sheets) (sym (c .sheet-length .ensures .0)) ∙ (sym (c .are-long .ensures) ∙ c .if-not-are-long .left) in
     let agree = same-true (c .args .sheets .now .marks .now) (marks-of o) (c .marks-agree .ensures .0 (c .if-not-marks-agree .left)) in
+    let told = c .report .ensures ∙ ap (λ t. record { steps = s .steps; total = t; poured = s .poured; inward = s .inward }) (c .leaf-total-total .ensures) in
     (λ i. record {
-      answer = Ok (record { steps = s .steps; total = c .leaf-total .ensures i; poured = s .poured; inward = s .inward });
+      answer = Ok (told i);
       state = s;
       sheets = sheets;
     })

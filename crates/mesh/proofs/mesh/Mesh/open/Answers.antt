@@ -20,8 +20,8 @@ returns g c =
     let each = all-long-parts (sheet-length (c .args .size)) sheets long in
     let zero-is = c .zero-zero .ensures in
     opened-by G o (c .args .size) (flat .1) (flat .2) (flat .3) sheets (flat .0) long (c .zero-zero .result) zero-is _ _ _ _ _
-    (c .clear .ensures ∙ (ap (λ k. replicate k (c .zero-zero .result)) (each .0) ∙ ap (replicate (sheet-length (c .args .size))) zero-is))
-    (c .clear-2 .ensures ∙ (ap (λ k. replicate k (c .zero-zero .result)) (each .1) ∙ ap (replicate (sheet-length (c .args .size))) zero-is))
-    (c .clear-3 .ensures ∙ (ap (λ k. replicate k (c .zero-zero .result)) (each .2) ∙ ap (replicate (sheet-length (c .args .size))) zero-is))
+    (c .clear-amounts .ensures .contents ∙ (ap (λ k. replicate k (c .zero-zero .result)) (each .0) ∙ ap (replicate (sheet-length (c .args .size))) zero-is))
+    (c .clear-amounts .ensures .before ∙ (ap (λ k. replicate k (c .zero-zero .result)) (each .1) ∙ ap (replicate (sheet-length (c .args .size))) zero-is))
+    (c .clear-amounts .ensures .corrections ∙ (ap (λ k. replicate k (c .zero-zero .result)) (each .2) ∙ ap (replicate (sheet-length (c .args .size))) zero-is))
     (c .mark-base .ensures ∙ ap (λ s. sheet s (λ l x y. cond (eqb l 0) 1 0)) (flat .1))
-    (c .clear-4 .ensures ∙ ap (λ k. replicate k 0) (each .4))
+    (c .clear .ensures ∙ ap (λ k. replicate k 0) (each .4))

@@ -9,7 +9,7 @@ use Rattle.grid.proofs.Indices.{index-given, index-absent}
 use Rattle.model.specs.States.{poured-into}
 use Rattle.model.specs.Refusals.{all-long, pour-refusal}
 use Rattle.model.proofs.Sheets.{sheet-of-fields}
-use Rattle.mesh.specs.Reads.{lent, lists, state-of}
+use Rattle.mesh.specs.Reads.{lent, lists, state-of, outcome}
 use Rattle.mesh.proofs.Calls.{refused-by, accepted-by, same-true, same-false, pour-2, pour-4, pour-5, pour-none, all-long-parts}
 use Rattle.mesh.proofs.mesh.Mesh.pour.Needs as need
 
@@ -56,14 +56,16 @@ returns g c =
     let kept : length (c .pour-down .last .contents) ≡ sheet-length (o .size) = c .pour-down .kept .contents ∙ all-long-parts (sheet-length (o .size)) sheets long .0 in
     let listed : c .pour-down .last .contents ≡ sheet (o .size) (poured-into G s x y (c .args .amount) .contents) =
     sheet-of-fields (o .size) (G .zero) (c .pour-down .last .contents) kept ∙ ap (sheet (o .size)) poured in
-    (λ i. record {
+    let ended = lists (c .pour-down .last .contents) (c .args .sheets .before .now) (c .args .sheets .corrections .now) (c .args .sheets .marks .now) (c .args .sheets .wanted .now) in
+    ap (λ m. outcome G (Ok tt) m ended) (c .add-poured .ensures)
+    ∙ (λ i. record {
       answer = Ok tt;
       state = record {
         size = o .size;
         patches = s .patches;
         contents = poured i;
         steps = s .steps;
-        poured = c .add-self .ensures i;
+        poured = G ._⊕_ (s .poured) (c .args .amount);
         inward = s .inward;
       };
       sheets = lists (listed i) (c .args .sheets .before .now) (c .args .sheets .corrections .now) (c .args .sheets .marks .now) (c .args .sheets .wanted .now);
