@@ -1,3 +1,11 @@
 pub mod Sums
 pub mod Sheets
 pub mod Totals
+pub mod Groups
+pub mod Doubles
+pub mod Faces
+pub mod Halves
+pub mod Grids
+pub mod Levels
+pub mod Steps
+pub mod Restrictions

@@ -5,3 +5,8 @@ pub mod Total
 pub mod States
 pub mod Refusals
 pub mod Calls
+pub mod Groups
+pub mod Nesting
+pub mod Interfaces
+pub mod Step
+pub mod Balance
