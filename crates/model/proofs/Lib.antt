@@ -4,8 +4,10 @@ pub mod Totals
 pub mod Groups
 pub mod Doubles
 pub mod Faces
+pub mod Writes
 pub mod Halves
 pub mod Grids
 pub mod Levels
 pub mod Steps
 pub mod Restrictions
+pub mod Regrids

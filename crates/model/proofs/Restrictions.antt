@@ -12,7 +12,7 @@ use Rattle.model.specs.Groups.{Amounts, Group}
 use Rattle.model.specs.Interfaces.{Flux, Children}
 use Rattle.model.specs.Step.{children-sum, restrict, level-step, step}
 use Rattle.model.specs.Balance.{Step-restricts}
-use Rattle.model.proofs.Steps.{write-same, write-above}
+use Rattle.model.proofs.Writes.{write-same, write-above}
 
 module _ {A : Type 0} (G : Amounts A) (M : Hierarchy) where
   -- a level that was restricted from the finer one, with the finer ones beside it

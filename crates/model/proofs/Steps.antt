@@ -4,8 +4,6 @@ use mathlib.Core.Bool.{Bool, true, false, cond}
 use Prim.Native.Nat.{ℕ, zero, suc, pred, _+_, _*_, _/_, _<_}
 use native.Mathlib.Nat.{add-zero, add-suc, suc-add, zero-add, lt-irrefl, lt-suc-self, le-of-lt, lt-trans}
 use native.Mathlib.Omega.{arith}
-use lib.Dec.{eqb}
-use Rattle.std.proofs.shelf.Tests.{cond-true, cond-false, eq-eqb, ne-eqb}
 use Rattle.amount.specs.Additions.{Addition, Sums}
 use Rattle.grid.specs.Sizes.{level-width, level-height}
 use Rattle.grid.specs.Hierarchies.{Hierarchy, live, leaf}
@@ -18,17 +16,10 @@ use Rattle.model.specs.Interfaces.{Flux, Children}
 use Rattle.model.specs.Step.{Faces, flux-registers, reflux, restrict, fluxes, advance, level-step, boundary-inward, inward, step}
 use Rattle.model.specs.Balance.{Step-conserves}
 use Rattle.model.proofs.Sums.{left-neutral, left-comm, pairs}
+use Rattle.model.proofs.Writes.{write-same, total-above}
 use Rattle.model.proofs.Halves.{edge-flat}
 use Rattle.model.proofs.Grids.{base-live, bottom}
 use Rattle.model.proofs.Levels.{edges, level-balance}
-
-pub write-same : {A : Type 0} (l : ℕ) (f : Field A) (u : Fields A) → write l f u l ≡ f
-unfolding write
-write-same l f u = cond-true _ _ _ (eq-eqb l l refl)
-
-pub write-above : {A : Type 0} (l k : ℕ) (f : Field A) (u : Fields A) → l < k → write l f u k ≡ u k
-unfolding write
-write-above l k f u h = cond-false _ _ _ (ne-eqb k l (λ e. lt-irrefl l (omega arith)))
 
 module _ {A : Type 0} (G : Amounts A) (laws : Group G) where
   open Amounts G using (addition, negation as neg)
@@ -37,14 +28,6 @@ module _ {A : Type 0} (G : Amounts A) (laws : Group G) where
   open Sums sums using (assoc, comm, neutral as right-neutral)
 
   infixl 60 _⊕_
-  -- finer levels do not see what is written on level l
-  pub total-above : (M : Hierarchy) (d k l : ℕ) (f : Field A) (u : Fields A) → l < k
-      → composite-total addition M d k (write l f u) ≡ composite-total addition M d k u
-  unfolding composite-total
-  total-above M zero k l f u h = refl
-  total-above M (suc d) k l f u h =
-      ap₂ _⊕_ (ap (level-total addition M k) (write-above l k f u h)) (total-above M d (suc k) l f u (lt-trans h (lt-suc-self k)))
-
   regroup : (V T₀ i₁ e₁ i₂ e₂ : A) → V ⊕ (T₀ ⊕ i₁ ⊕ e₁ ⊕ i₂ ⊕ e₂) ≡ V ⊕ (e₁ ⊕ e₂) ⊕ (T₀ ⊕ (i₁ ⊕ i₂))
   regroup V T₀ i₁ e₁ i₂ e₂ = simp (assoc, comm, left-comm addition sums)
 
@@ -82,7 +65,7 @@ module _ {A : Type 0} (G : Amounts A) (laws : Group G) where
     step-balance zero l cb u h =
         sym (ap₂ _⊕_ (left-neutral addition sums nought) (edges-none M l _ (λ x y. ap (λ k. live M k x y) (sym (add-zero l)) ∙ h x y)) ∙ left-neutral addition sums nought)
     step-balance (suc d) l cb u h =
-        ap₂ _⊕_ (ap (level-total addition M l) (write-same l _ _)) (total-above M d (suc l) l _ _ (lt-suc-self l))
+        ap₂ _⊕_ (ap (level-total addition M l) (write-same l _ _)) (total-above addition M d (suc l) l _ _ (lt-suc-self l))
         ∙ combine _ _ _ _ _ _ _ _ _ _ _ (step-balance d (suc l) (u l) u h') (step-balance d (suc l) (u l) first h')
         (level-balance G laws M L N F split steps l cb (u l) _ _ _)
       where

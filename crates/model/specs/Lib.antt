@@ -9,4 +9,7 @@ pub mod Groups
 pub mod Nesting
 pub mod Interfaces
 pub mod Step
+pub mod Rings
+pub mod Wanted
+pub mod Regrid
 pub mod Balance

@@ -1,6 +1,6 @@
 // What the calls of a mesh mean, as definitions on fields of amounts: see specs/. A function here carries a theorem about them in its
 // contract.
-ghost use Rattle.model.specs.Balance.{Step-conserves, Step-restricts};
+ghost use Rattle.model.specs.Balance.{Step-conserves, Step-restricts, Regrid-conserves};
 
 mod direction;
 
@@ -16,6 +16,13 @@ pub fn step_conserves<V>() -> u8
 // After a step each covered cell holds the sum of its children.
 pub fn step_restricts<V>() -> u8
     ensures { λ _. ⌜ Step-restricts V ⌝ }
+{
+    0
+}
+
+// A regrid keeps the composite total, and that each covered cell holds the sum of its children.
+pub fn regrid_conserves<V>() -> u8
+    ensures { λ _. ⌜ Regrid-conserves V ⌝ }
 {
     0
 }
