@@ -11,3 +11,8 @@ pub mod Levels
 pub mod Steps
 pub mod Restrictions
 pub mod Regrids
+pub mod Pours
+pub mod Rings
+pub mod Laid
+pub mod Dead
+pub mod Histories

@@ -13,3 +13,6 @@ pub mod Rings
 pub mod Wanted
 pub mod Regrid
 pub mod Balance
+pub mod Evolution
+pub mod History
+pub mod Ledger

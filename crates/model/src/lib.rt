@@ -1,6 +1,7 @@
 // What the calls of a mesh mean, as definitions on fields of amounts: see specs/. A function here carries a theorem about them in its
 // contract.
 ghost use Rattle.model.specs.Balance.{Step-conserves, Step-restricts, Regrid-conserves};
+ghost use Rattle.model.specs.Ledger.{History-balances, History-well-laid, History-dead-zero};
 
 mod direction;
 
@@ -23,6 +24,29 @@ pub fn step_restricts<V>() -> u8
 // A regrid keeps the composite total, and that each covered cell holds the sum of its children.
 pub fn regrid_conserves<V>() -> u8
     ensures { λ _. ⌜ Regrid-conserves V ⌝ }
+{
+    0
+}
+
+// In every history, after each answer: the composite total is what the ledger says was poured and came inward, an audit says so, the
+// patches share no cell and covered cells have their whole ring live, a regrid covers what it wanted and leaves the other uncovered
+// cells alone, and contents and marks are the sheets of the mesh.
+pub fn history_balances<V>() -> u8
+    ensures { λ _. ⌜ History-balances V ⌝ }
+{
+    0
+}
+
+// In every history the patches are well laid.
+pub fn history_well_laid<V>() -> u8
+    ensures { λ _. ⌜ History-well-laid V ⌝ }
+{
+    0
+}
+
+// In every history a cell that is not live holds zero.
+pub fn history_dead_zero<V>() -> u8
+    ensures { λ _. ⌜ History-dead-zero V ⌝ }
 {
     0
 }
