@@ -16,3 +16,4 @@ pub mod Rings
 pub mod Laid
 pub mod Dead
 pub mod Histories
+pub mod Examples

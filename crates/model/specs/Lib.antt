@@ -16,3 +16,5 @@ pub mod Balance
 pub mod Evolution
 pub mod History
 pub mod Ledger
+pub mod Clusterings
+pub mod Examples

@@ -2,6 +2,7 @@
 // contract.
 ghost use Rattle.model.specs.Balance.{Step-conserves, Step-restricts, Regrid-conserves};
 ghost use Rattle.model.specs.Ledger.{History-balances, History-well-laid, History-dead-zero};
+ghost use Rattle.model.specs.Examples.{Small-example, Nesting-example};
 
 mod direction;
 
@@ -47,6 +48,20 @@ pub fn history_well_laid<V>() -> u8
 // In every history a cell that is not live holds zero.
 pub fn history_dead_zero<V>() -> u8
     ensures { λ _. ⌜ History-dead-zero V ⌝ }
+{
+    0
+}
+
+// Two pours, a regrid, a step, a refused regrid and an audit on a mesh of 4 by 1 base cells and 2 levels, worked out.
+pub fn small_example() -> u8
+    ensures { λ _. ⌜ Small-example ⌝ }
+{
+    0
+}
+
+// Regrids on a mesh of 8 by 1 base cells and 3 levels, worked out: the nesting cells keep a patch that nothing flags.
+pub fn nesting_example() -> u8
+    ensures { λ _. ⌜ Nesting-example ⌝ }
 {
     0
 }
