@@ -34,6 +34,68 @@ pub record Line (A : Type 0) : Type 0 where
 unfoldable pub seen : {A : Type 0} → Line A → ℕ → A
 seen n i = cond (n .alive i) (n .content i) (n .outer i)
 
+module _ {A : Type 0} (G : Amounts A) where
+  open Amounts G using (addition, negation)
+
+  -- The flux over face i of a line, between the cells i - 1 and i, from low to high. At its two ends it is the boundary flux, which is
+  -- told inward; a face without a live cell has none.
+  unfoldable pub flux : Line A → ℕ → A
+  flux n zero = gate addition (n .alive zero) (n .low (n .content zero))
+  flux n (suc i) =
+      cond (ltb (suc i) (n .size))
+      (gate addition (n .alive i || n .alive (suc i)) (n .between (seen n i) (seen n (suc i))))
+      (negation (gate addition (n .alive i) (n .high (n .content i))))
+
+module _ {A : Type 0} (G : Amounts A) (M : Hierarchy) (F : Flux A) (split : A → Children A) (steps : ℕ) where
+  -- row y of level l, from the level before, b, and the coarser level before, cb
+  unfoldable pub row : ℕ → Field A → Field A → ℕ → Line A
+  row l cb b y = record {
+    size = level-width (M .size) l;
+    alive = λ x. live M l x y;
+    content = λ x. b x y;
+    outer = λ x. child (split (cb (x / 2) (y / 2))) x y;
+    between = F .interior l Direction.East;
+    low = F .boundary l West y steps;
+    high = F .boundary l East y steps;
+  }
+
+  -- column x of level l, from the same
+  unfoldable pub column : ℕ → Field A → Field A → ℕ → Line A
+  column l cb b x = record {
+    size = level-height (M .size) l;
+    alive = λ y. live M l x y;
+    content = λ y. b x y;
+    outer = λ y. child (split (cb (x / 2) (y / 2))) x y;
+    between = F .interior l Direction.North;
+    low = F .boundary l South x steps;
+    high = F .boundary l North x steps;
+  }
+
+  -- one flux for each face of level l, from before
+  unfoldable pub fluxes : ℕ → Field A → Field A → Faces A
+  fluxes l cb b = record {
+    over-x = λ x y. flux G (row l cb b y) x;
+    over-y = λ x y. flux G (column l cb b x) y;
+  }
+
+module _ {A : Type 0} (G : Amounts A) where
+  open Amounts G using (addition)
+  open Addition addition using (_⊕_)
+
+  infixl 60 _⊕_
+  -- what came in less what went out of each cell
+  unfoldable pub gain : Faces A → Field A
+  gain f x y = minus G (f .over-x x y) (f .over-x (suc x) y) ⊕ minus G (f .over-y x y) (f .over-y x (suc y))
+
+module _ {A : Type 0} (G : Amounts A) (M : Hierarchy) (F : Flux A) (split : A → Children A) (steps : ℕ) where
+  open Amounts G using (addition)
+  open Addition addition using (_⊕_)
+
+  infixl 60 _⊕_
+  -- Every live cell of level l becomes its content before plus what came in less what went out.
+  unfoldable pub advance : ℕ → Field A → Field A → Field A
+  advance l cb b x y = cond (live M l x y) (b x y ⊕ gain G (fluxes G M F split steps l cb b) x y) (b x y)
+
 module _ {A : Type 0} (G : Addition A) where
   open Addition G using (_⊕_)
 
@@ -45,36 +107,11 @@ module _ {A : Type 0} (G : Addition A) where
     over-y = λ x y. f .over-y (2 * x) (2 * y) ⊕ f .over-y (suc (2 * x)) (2 * y);
   }
 
-  -- the sum of what the four children of a cell hold, in the field of their level
-  unfoldable pub children-sum : Field A → Field A
-  children-sum f x y = f (2 * x) (2 * y) ⊕ f (suc (2 * x)) (2 * y) ⊕ f (2 * x) (suc (2 * y)) ⊕ f (suc (2 * x)) (suc (2 * y))
-
-  -- each covered cell becomes the sum of its children
-  unfoldable pub restrict : Hierarchy → ℕ → Field A → Field A → Field A
-  restrict M l finer v x y = cond (M .covered l x y) (children-sum finer x y) (v x y)
-
-  -- each covered cell holds the sum of its children
-  abbrev pub Restricted : Hierarchy → Fields A → Type 0
-  Restricted M u = (l x y : ℕ) → M .covered l x y ≡ true → u l x y ≡ children-sum (u (suc l)) x y
-
 module _ {A : Type 0} (G : Amounts A) where
   open Amounts G using (addition, negation)
   open Addition addition using (zero as nought, _⊕_)
 
   infixl 60 _⊕_
-  -- The flux over face i of a line, between the cells i - 1 and i, from low to high: nothing where neither is live. At the boundary
-  -- it is the flux into the live cell there.
-  unfoldable pub flux : Line A → ℕ → A
-  flux n zero = gate addition (n .alive zero) (n .low (n .content zero))
-  flux n (suc i) =
-      cond (ltb (suc i) (n .size))
-      (gate addition (n .alive i || n .alive (suc i)) (n .between (seen n i) (seen n (suc i))))
-      (negation (gate addition (n .alive i) (n .high (n .content i))))
-
-  -- what came in less what went out of each cell
-  unfoldable pub gain : Faces A → Field A
-  gain f x y = minus G (f .over-x x y) (f .over-x (suc x) y) ⊕ minus G (f .over-y x y) (f .over-y x (suc y))
-
   -- The flux register of face i of a line, only between a covered and an uncovered live cell: minus the face's own flux, plus what
   -- crossed its halves.
   unfoldable pub flux-register : (covered leaves : ℕ → Bool) (own finer : ℕ → A) → ℕ → A
@@ -100,55 +137,36 @@ module _ {A : Type 0} (G : Amounts A) (M : Hierarchy) where
   unfoldable pub reflux : ℕ → Faces A → Field A → Field A
   reflux l r v x y = cond (leaf M l x y) (v x y ⊕ gain G r x y) (v x y)
 
+module _ {A : Type 0} (G : Addition A) where
+  open Addition G using (_⊕_)
+
+  infixl 60 _⊕_
+  -- the sum of what the four children of a cell hold, in the field of their level
+  unfoldable pub children-sum : Field A → Field A
+  children-sum f x y = f (2 * x) (2 * y) ⊕ f (suc (2 * x)) (2 * y) ⊕ f (2 * x) (suc (2 * y)) ⊕ f (suc (2 * x)) (suc (2 * y))
+
+  -- each covered cell becomes the sum of its children
+  unfoldable pub restrict : Hierarchy → ℕ → Field A → Field A → Field A
+  restrict M l finer v x y = cond (M .covered l x y) (children-sum finer x y) (v x y)
+
 module _ {A : Type 0} (G : Amounts A) (M : Hierarchy) (F : Flux A) (split : A → Children A) (steps : ℕ) where
   open Amounts G using (addition)
   open Addition addition using (zero as nought, _⊕_)
 
   infixl 60 _⊕_
-  -- Row y of level l: b is the level before, cb the coarser level before.
-  unfoldable pub row : ℕ → Field A → Field A → ℕ → Line A
-  row l cb b y = record {
-    size = level-width (M .size) l;
-    alive = λ x. live M l x y;
-    content = λ x. b x y;
-    outer = λ x. child (split (cb (x / 2) (y / 2))) x y;
-    between = F .interior l Direction.East;
-    low = F .boundary l West y steps;
-    high = F .boundary l East y steps;
-  }
-
-  -- column x of level l
-  unfoldable pub column : ℕ → Field A → Field A → ℕ → Line A
-  column l cb b x = record {
-    size = level-height (M .size) l;
-    alive = λ y. live M l x y;
-    content = λ y. b x y;
-    outer = λ y. child (split (cb (x / 2) (y / 2))) x y;
-    between = F .interior l Direction.North;
-    low = F .boundary l South x steps;
-    high = F .boundary l North x steps;
-  }
-
-  -- one flux for each face of level l, from before
-  unfoldable pub fluxes : ℕ → Field A → Field A → Faces A
-  fluxes l cb b = record {
-    over-x = λ x y. flux G (row l cb b y) x;
-    over-y = λ x y. flux G (column l cb b x) y;
-  }
-
-  -- Every live cell of level l becomes its content before plus what came in less what went out.
-  unfoldable pub advance : ℕ → Field A → Field A → Field A
-  advance l cb b x y = cond (live M l x y) (b x y ⊕ gain G (fluxes l cb b) x y) (b x y)
-
   -- A level step on level l, the coarsest of d levels: advance, two substeps of level l + 1, reflux, restriction.
   unfoldable pub level-step : (d l : ℕ) → Field A → Fields A → Fields A
   level-step zero l cb u = u
   level-step (suc d) l cb u =
       let first : Fields A = level-step d (suc l) (u l) u in
       let second : Fields A = level-step d (suc l) (u l) first in
-      let registers : Faces A =
-      flux-registers G M l (fluxes l cb (u l)) (fluxes (suc l) (u l) (u (suc l))) (fluxes (suc l) (u l) (first (suc l))) in
-      write l (restrict addition M l (second (suc l)) (reflux G M l registers (advance l cb (u l)))) second
+      let over : ℕ → Field A → Field A → Faces A = fluxes G M F split steps in
+      let registers : Faces A = flux-registers G M l (over l cb (u l)) (over (suc l) (u l) (u (suc l))) (over (suc l) (u l) (first (suc l))) in
+      write l (restrict addition M l (second (suc l)) (reflux G M l registers (advance G M F split steps l cb (u l)))) second
+
+  -- A step is one level step on level 0. Every cell of the grid is live there, so that no coarser level is asked.
+  unfoldable pub step : (L : ℕ) → Fields A → Fields A
+  step L u = level-step L 0 (λ x y. nought) u
 
   -- the boundary fluxes at the live uncovered cells of level l
   unfoldable pub boundary-inward : ℕ → Field A → A
@@ -165,6 +183,6 @@ module _ {A : Type 0} (G : Amounts A) (M : Hierarchy) (F : Flux A) (split : A �
   inward zero l u = nought
   inward (suc d) l u = boundary-inward l (u l) ⊕ (inward d (suc l) u ⊕ inward d (suc l) (level-step d (suc l) (u l) u))
 
-  -- A step is one level step on level 0. Every cell of the grid is live there, so that no coarser level is asked.
-  unfoldable pub step : (L : ℕ) → Fields A → Fields A
-  step L u = level-step L 0 (λ x y. nought) u
+-- each covered cell holds the sum of its children
+abbrev pub Restricted : {A : Type 0} → Addition A → Hierarchy → Fields A → Type 0
+Restricted G M u = (l x y : ℕ) → M .covered l x y ≡ true → u l x y ≡ children-sum G (u (suc l)) x y
