@@ -5,3 +5,16 @@ pub mod Total
 pub mod States
 pub mod Refusals
 pub mod Calls
+pub mod Groups
+pub mod Nesting
+pub mod Interfaces
+pub mod Step
+pub mod Rings
+pub mod Wanted
+pub mod Regrid
+pub mod Balance
+pub mod Evolution
+pub mod History
+pub mod Ledger
+pub mod Clusterings
+pub mod Examples
