@@ -106,6 +106,7 @@ module _ {A : Type 0} (G : Amounts A) where
   abbrev pub too-many : State A → Sheets A → Outcome A (Unit {0})
   too-many s sheets = record { answer = Err 8; state = s; sheets = with-none-wanted s sheets }
 
+  -- A regrid of level l asks the clustering and lays its boxes.
   abbrev pub regrid-call : State A → Sheets A → ℕ → Flagging A → (A → Children A) → Clustering → Outcome A (Unit {0})
   regrid-call s sheets l flag split cluster =
       unless-refused (regrid-refusal s sheets l) s sheets

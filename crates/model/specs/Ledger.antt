@@ -57,6 +57,7 @@ module _ {A : Type 0} (G : Amounts A) where
   Lawful (to-regrid w l flag split cluster) = Splits addition split × Clusters cluster
   Lawful (to-audit w) = Unit {0}
 
+  -- each call of a list is lawful
   abbrev pub All-lawful : List (Call A) → Type 0
   All-lawful [] = Unit {0}
   All-lawful (c ∷ cs) = Lawful c × All-lawful cs

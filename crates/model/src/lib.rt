@@ -2,6 +2,7 @@
 // contract.
 ghost use Rattle.model.specs.Balance.{Step-conserves, Step-restricts, Regrid-conserves};
 ghost use Rattle.model.specs.Ledger.{History-balances, History-well-laid, History-dead-zero};
+ghost use Rattle.model.specs.Clusterings.{Clusterings-lawful};
 ghost use Rattle.model.specs.Examples.{Small-example, Nesting-example};
 
 mod direction;
@@ -48,6 +49,13 @@ pub fn history_well_laid<V>() -> u8
 // In every history a cell that is not live holds zero.
 pub fn history_dead_zero<V>() -> u8
     ensures { λ _. ⌜ History-dead-zero V ⌝ }
+{
+    0
+}
+
+// The clusterings by runs and by cells keep the law of clusterings, so that histories speak of them.
+pub fn clusterings_lawful() -> u8
+    ensures { λ _. ⌜ Clusterings-lawful ⌝ }
 {
     0
 }
