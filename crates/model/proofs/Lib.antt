@@ -18,3 +18,4 @@ pub mod Dead
 pub mod Histories
 pub mod Examples
 pub mod Clusterings
+pub mod Beginnings
