@@ -1,12 +1,10 @@
 -- What a history begins with, and the marks that its calls are lent.
-use mathlib.Core.Path.{_≡_, refl, sym, ap, ap₂, _∙_, subst}
+use mathlib.Core.Path.{_≡_, refl, sym, ap, _∙_}
 use mathlib.Core.Bool.{Bool, true, false, cond, false≢true}
-use mathlib.Core.List.{List, []}
 use Prim.Native.Nat.{ℕ, zero, suc, _+_, _<_}
-use native.Mathlib.Nat.{mul-one}
 use native.Mathlib.Omega.{arith}
 use lib.Dec.{ltb, leb, eqb}
-use lib.ListN.{length, getD, replicate}
+use lib.ListN.{length, replicate}
 use Rattle.std.specs.declared.option.Option.{Option}
 use Rattle.std.specs.declared.option.Option.the-variants.{Some, None}
 use Rattle.std.specs.declared.result.Result.{Result}
@@ -17,14 +15,13 @@ use Rattle.std.proofs.shelf.Tests.{cond-true, cond-false, ne-eqb}
 use Rattle.amount.specs.Additions.{Addition}
 use Rattle.grid.specs.declared.size.Size.{Size}
 use Rattle.grid.specs.Sizes.{in-range, in-mesh, level-width, level-height, sheet-length, index, sheet}
-use Rattle.grid.specs.Hierarchies.{laid, live, mark}
+use Rattle.grid.specs.Hierarchies.{live, mark}
 use Rattle.grid.proofs.Sheets.{is-sheet, sheet-at, length-sheet, index-below}
 use Rattle.model.specs.States.{State, hierarchy, opened}
 use Rattle.model.specs.Refusals.{Sheets, whole, marked, unless, pour-refusal, audit-refusal}
-use Rattle.model.specs.Calls.{Opening, Outcome, unless-closed, unless-refused, opened-sheets, open-call, pour-call, audit-call}
-use Rattle.model.specs.Groups.{Amounts}
-use Rattle.model.specs.Evolution.{step-refusal, regrid-refusal, boxes, regrid-done, too-many, step-call, regrid-call}
-use Rattle.model.specs.History.{Working, Call, to-pour, to-step, to-regrid, to-audit, Reply, done, came-inward, reported, lent, as-reply, replying, outcome}
+use Rattle.model.specs.Calls.{Outcome, unless-closed, unless-refused, opened-sheets}
+use Rattle.model.specs.Evolution.{step-refusal, regrid-refusal, boxes, regrid-done, too-many}
+use Rattle.model.specs.History.{Working, to-pour, to-step, to-regrid, to-audit, Reply, done, came-inward, reported, lent, as-reply, replying, outcome}
 use Rattle.model.specs.Ledger.{Opening-right, Marks-never-refused}
 use Rattle.model.proofs.Grids.{base-live}
 

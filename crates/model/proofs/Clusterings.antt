@@ -1,7 +1,7 @@
 -- Runs and cells keep the law of clusterings.
-use mathlib.Core.Path.{_≡_, refl, sym, ap, ap₂, _∙_, subst, subst₂}
-use mathlib.Core.Bool.{Bool, true, false, _&&_, _||_, cond, true≢false, false≢true}
-use mathlib.Core.Logic.{_⊎_, inl, inr}
+use mathlib.Core.Path.{_≡_, refl, sym, ap, _∙_, subst}
+use mathlib.Core.Bool.{Bool, true, false, _&&_, _||_, true≢false, false≢true}
+use mathlib.Core.Logic.{inl, inr}
 use mathlib.Core.List.{List, [], _∷_, _++_}
 use Prim.Native.Nat.{ℕ, zero, suc, _+_, _≤_, _<_, zero-le}
 use native.Mathlib.Nat.{lt-irrefl, le-refl, zero-add, le-of-suc-le-suc}
@@ -13,9 +13,9 @@ use Rattle.std.specs.declared.option.Option.{Option}
 use Rattle.std.specs.declared.option.Option.the-variants.{Some, None}
 use Rattle.std.proofs.shelf.Tests.{and-parts, cond-both, leb-true, ltb-true, le-leb, lt-ltb}
 use Rattle.grid.specs.declared.patch.Patch.{Patch}
-use Rattle.grid.specs.Boxes.{no-patch, holds, held, Inside, Apart}
+use Rattle.grid.specs.Boxes.{no-patch, holds, held, Inside}
 use Rattle.model.specs.Nesting.{All-inside}
-use Rattle.model.specs.Wanted.{Clustered, Clusters}
+use Rattle.model.specs.Wanted.{Clustered}
 use Rattle.model.specs.Clusterings.{stretch, by-rows, row-cells, row-runs, cells, runs, Clusterings-lawful}
 use Rattle.model.proofs.Rings.{and-so, or-first, or-second, one-of}
 

@@ -1,9 +1,8 @@
 -- Well-laid patches make a nested hierarchy, and those that an accepted regrid lays are well laid.
-use mathlib.Core.Path.{_≡_, refl, sym, ap, ap₂, _∙_, subst, subst₂}
-use mathlib.Core.Bool.{Bool, true, false, not, _&&_, _||_, cond, true≢false, false≢true}
-use mathlib.Core.Logic.{_⊎_, inl, inr}
-use mathlib.Core.List.{List, [], _∷_}
-use Prim.Native.Nat.{ℕ, zero, suc, pred, _+_, _*_, _/_, _^_, _≤_, _<_}
+use mathlib.Core.Path.{_≡_, refl, sym, ap, _∙_, subst}
+use mathlib.Core.Bool.{Bool, true, false, _||_, cond, false≢true}
+use mathlib.Core.List.{List}
+use Prim.Native.Nat.{ℕ, zero, suc, _*_, _/_, _^_, _≤_, _<_}
 use native.Mathlib.Nat.{lt-irrefl, suc-inj}
 use native.Mathlib.Decide.{ℕ-discrete, decLt}
 use native.Mathlib.Omega.{arith}
@@ -13,12 +12,12 @@ use Rattle.std.proofs.shelf.Tests.{cond-true, cond-false, eq-eqb, ne-eqb}
 use Rattle.grid.specs.declared.patch.Patch.{Patch}
 use Rattle.grid.specs.declared.size.Size.{Size}
 use Rattle.grid.specs.Sizes.{level-width, level-height}
-use Rattle.grid.specs.Boxes.{no-patch, holds, held, Apart}
+use Rattle.grid.specs.Boxes.{no-patch, held, Apart}
 use Rattle.grid.specs.Hierarchies.{Patches, Hierarchy, laid, live}
 use Rattle.grid.proofs.Cover.{holds-parts, held-decides}
 use Rattle.model.specs.Fields.{Fields}
 use Rattle.model.specs.Nesting.{Nested, All-inside, Rings-live, Well-laid}
-use Rattle.model.specs.Rings.{ring-some, ring-every, child-some}
+use Rattle.model.specs.Rings.{ring-some}
 use Rattle.model.specs.Wanted.{Flagging, Clustered, buffer, nesting, properly-nested, wanted}
 use Rattle.model.specs.Regrid.{with-patches, relaid}
 use Rattle.model.proofs.Grids.{width-suc, height-suc}

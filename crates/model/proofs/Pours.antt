@@ -1,13 +1,13 @@
 -- A pour adds its amount to the composite total, and keeps that each covered cell holds the sum of its children.
-use mathlib.Core.Path.{_≡_, refl, sym, ap, ap₂, _∙_, subst, subst₂}
-use mathlib.Core.Bool.{Bool, true, false, not, _&&_, _||_, cond, true≢false, false≢true}
-use mathlib.Core.Logic.{_⊎_, inl, inr}
-use Prim.Native.Nat.{ℕ, zero, suc, pred, _+_, _*_, _/_, _%_, _≤_, _<_, zero-le}
+use mathlib.Core.Path.{_≡_, refl, sym, ap, ap₂, _∙_, subst}
+use mathlib.Core.Bool.{Bool, true, false, not, _&&_, cond, true≢false, false≢true}
+use mathlib.Core.Logic.{inl, inr}
+use Prim.Native.Nat.{ℕ, zero, suc, _+_, _*_, _≤_, _<_}
 use native.Mathlib.Nat.{eq-or-lt-of-le, le-of-suc-le-suc, lt-irrefl, lt-suc-self, lt-trans, suc-add, add-suc, add-zero, le-refl, le-of-lt}
 use native.Mathlib.Decide.{ℕ-discrete}
 use native.Mathlib.Omega.{arith}
 use lib.Dec.{eqb}
-use Rattle.std.proofs.shelf.Tests.{cond-true, cond-false, cond-both, eq-eqb, ne-eqb, eqb-true}
+use Rattle.std.proofs.shelf.Tests.{cond-both, eq-eqb, ne-eqb, eqb-true}
 use Rattle.amount.specs.Additions.{Addition, Sums}
 use Rattle.grid.specs.Sizes.{level-width, level-height}
 use Rattle.grid.specs.Hierarchies.{Hierarchy, live, leaf}

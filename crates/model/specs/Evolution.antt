@@ -7,7 +7,6 @@ use lib.ListN.{length, replicate}
 use Rattle.std.specs.declared.option.Option.{Option}
 use Rattle.std.specs.declared.option.Option.the-variants.{None}
 use Rattle.std.specs.declared.result.Result.the-variants.{Ok, Err}
-use Rattle.amount.specs.Additions.{Addition}
 use Rattle.grid.specs.declared.patch.Patch.{Patch}
 use Rattle.grid.specs.Sizes.{level-width, level-height, sheet-length, sheet}
 use Rattle.grid.specs.Boxes.{held}
