@@ -27,7 +27,7 @@ module _ {A : Type 0} (G : Amounts A) where
   abbrev face : (ci cj li lj : Bool) (φ F : A) → A
   face ci cj li lj φ F = φ ⊕ gate addition (ci && (lj && not cj) || li && not ci && cj) (neg φ ⊕ F)
 
-  -- the flux of a face and its flux-register
+  -- the flux of a face and its flux register
   abbrev pub moved : (live cov : ℕ → Bool) (φ F : ℕ → A) → ℕ → A
   moved live cov φ F i = φ i ⊕ flux-register G cov (leaves live cov) φ F i
 

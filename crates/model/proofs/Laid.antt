@@ -59,7 +59,7 @@ module _ (s : Size) (patches : Patches) (wl : Well-laid s patches) where
     deep = covered-deep;
   }
 
-  -- A covered cell is properly-nested to stay covered.
+  -- A covered cell is properly nested.
   covered-nested : (l x y : ℕ) → M .covered l x y ≡ true → properly-nested M l x y ≡ true
   unfolding properly-nested
   covered-nested l x y c =
@@ -97,7 +97,7 @@ module _ (s : Size) (patches : Patches) (wl : Well-laid s patches) where
     off : l ≡ suc l → ⊥
     off e = lt-irrefl l (omega arith)
 
-    -- the layout is the old one with the boxes' cells covered on level l
+    -- the hierarchy is the old one with the boxes' cells covered on level l
     pub relaid-is : relaid M l (held boxes) ≡ M'
     unfolding with-patches
     relaid-is = λ i. record { size = s; covered = λ k x y. at k x y i }
@@ -115,7 +115,7 @@ module _ (s : Size) (patches : Patches) (wl : Well-laid s patches) where
         half : (X v w : ℕ) → v ≡ 2 * w → X < v → X / 2 < w
         half X v w e h = omega arith
 
-    -- The parent of a cell of level l + 1 that is covered, or has a covered cell in its ring, is nesting; it is covered, so properly-nested,
+    -- The parent of a cell of level l + 1 that is covered, or has a covered cell in its ring, is a nesting cell; it is covered, so properly nested,
     -- so wanted, so the boxes hold it: the cell stays live.
     kept-live : (X Y : ℕ) → X < level-width s (suc l) → Y < level-height s (suc l) → live M (suc l) X Y ≡ true
         → (M .covered (suc l) X Y || ring-some (level-width s (suc l)) (level-height s (suc l)) (M .covered (suc l)) X Y) ≡ true

@@ -38,7 +38,7 @@ module _ {A : Type 0} (G : Addition A) (laws : Sums G) where
   pub four-same : {a b c d a' b' c' d' : A} → a ≡ a' → b ≡ b' → c ≡ c' → d ≡ d' → a ⊕ b ⊕ c ⊕ d ≡ a' ⊕ b' ⊕ c' ⊕ d'
   four-same p q r s = ap₂ _⊕_ (ap₂ _⊕_ (ap₂ _⊕_ p q) r) s
 
-  -- the sum over a finer grid, four children-sum by four
+  -- the sum over a finer grid, four children by four
   area-twice : (w h : ℕ) (f : Field A) → area G (2 * w) (2 * h) f ≡ area G w h (children-sum G f)
   unfolding children-sum
   area-twice w h f =
@@ -59,7 +59,7 @@ module _ {A : Type 0} (G : Addition A) (laws : Sums G) where
       pick X Y i j e f =
           ap₂ (λ a b. cond (eqb b 0) (cond (eqb a 0) (q .sw) (q .se)) (cond (eqb a 0) (q .nw) (q .ne))) e f
 
-  -- a function of a child and of its parent, summed over the four children-sum
+  -- a function of a child and of its parent, summed over the four children
   children-sum-parent : (f : ℕ → ℕ → ℕ → ℕ → A) (x y : ℕ)
       → children-sum G (λ X Y. f (X / 2) (Y / 2) X Y) x y ≡ children-sum G (λ X Y. f x y X Y) x y
   unfolding children-sum
@@ -84,8 +84,8 @@ module _ {A : Type 0} (G : Addition A) (laws : Sums G) where
   bare true a h = absurd (h refl)
   bare false a h = refl
 
-  -- One cell of level l with its four children-sum: u its content, w the children-sum's, s the split's; c whether it was covered, c' whether
-  -- it is; cc which children-sum are covered.
+  -- One cell of level l with its four children: u its content, w the children's, s the split's; c whether it was covered, c' whether
+  -- it is; cc which children are covered.
   patch : (lv c c' : Bool) (u : A) (w s : Field A) (cc : ℕ → ℕ → Bool) (x y : ℕ)
       → (c ≡ true → lv ≡ true) → (c' ≡ true → lv ≡ true)
       → ((X Y : ℕ) → X / 2 ≡ x → Y / 2 ≡ y → cc X Y ≡ true → (c ≡ true) × (c' ≡ true))
@@ -149,7 +149,7 @@ module _ {A : Type 0} (G : Addition A) (laws : Sums G) where
     live-other zero x y h = refl
     live-other (suc k) x y h = covered-other k (x / 2) (y / 2) (λ e. h (ap suc e))
 
-    -- the children-sum of covered cells stay live
+    -- the children of covered cells stay live
     stays : (X Y : ℕ) → M .covered (suc l) X Y ≡ true → (M .covered l (X / 2) (Y / 2) ≡ true) × (chosen (X / 2) (Y / 2) ≡ true)
     stays X Y t = (
       N .itself (suc l) X Y t,
