@@ -1,7 +1,7 @@
 -- Cells that are not live: no call but a regrid changes them.
 use mathlib.Core.Path.{_≡_, refl, sym, ap, ap₂, _∙_, subst}
-use mathlib.Core.Bool.{Bool, true, false, not, _&&_, cond, true≢false, false≢true}
-use Prim.Native.Nat.{ℕ, zero, suc, _*_, _/_}
+use mathlib.Core.Bool.{true, false, not, _&&_, true≢false}
+use Prim.Native.Nat.{ℕ, zero, suc, _*_}
 use native.Mathlib.Decide.{ℕ-discrete}
 use lib.Dec.{eqb}
 use Rattle.std.proofs.shelf.Tests.{cond-false, cond-both, and-parts, eqb-true}

@@ -1,7 +1,7 @@
 -- Sums over grids and over grids twice as fine.
-use mathlib.Core.Path.{_≡_, refl, sym, ap, ap₂, _∙_}
+use mathlib.Core.Path.{_≡_, refl, ap, _∙_}
 use mathlib.Core.Bool.{Bool, true, false}
-use Prim.Native.Nat.{ℕ, zero, suc, _+_, _*_, _/_}
+use Prim.Native.Nat.{ℕ, zero, suc, _*_, _/_}
 use native.Mathlib.Omega.{arith}
 use Rattle.amount.specs.Additions.{Addition, Sums}
 use Rattle.model.specs.Sums.{gate, sum, area}

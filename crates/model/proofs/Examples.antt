@@ -1,5 +1,5 @@
 -- The worked histories, by computing.
-use mathlib.Core.Path.{_≡_, refl}
+use mathlib.Core.Path.{refl}
 use Rattle.model.specs.Fields.{write}
 use Rattle.model.specs.Total.{level-total, composite-total}
 use Rattle.model.specs.Pour.{added, pour}

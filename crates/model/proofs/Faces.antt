@@ -1,7 +1,7 @@
 -- What the uncovered cells of a line gain by its fluxes and flux registers.
-use mathlib.Core.Path.{_≡_, refl, sym, ap, ap₂, _∙_, subst}
+use mathlib.Core.Path.{_≡_, refl, sym, ap, ap₂, _∙_}
 use mathlib.Core.Bool.{Bool, true, false, not, _&&_, _||_, true≢false, false≢true}
-use Prim.Native.Nat.{ℕ, zero, suc, pred, _+_, _*_, _<_}
+use Prim.Native.Nat.{ℕ, zero, suc, pred, _<_}
 use native.Mathlib.Omega.{arith}
 use Rattle.amount.specs.Additions.{Addition, Sums}
 use Rattle.model.specs.Sums.{gate, sum}
@@ -27,7 +27,7 @@ module _ {A : Type 0} (G : Amounts A) where
   abbrev face : (ci cj li lj : Bool) (φ F : A) → A
   face ci cj li lj φ F = φ ⊕ gate addition (ci && (lj && not cj) || li && not ci && cj) (neg φ ⊕ F)
 
-  -- the flux of a face and its flux-register
+  -- the flux of a face and its flux register
   abbrev pub moved : (live cov : ℕ → Bool) (φ F : ℕ → A) → ℕ → A
   moved live cov φ F i = φ i ⊕ flux-register G cov (leaves live cov) φ F i
 

@@ -1,6 +1,6 @@
 -- Live cells lie inside the grid; the rows and columns of a level as lines.
 use mathlib.Core.Path.{_≡_, refl, sym, ap, ap₂, _∙_, subst}
-use mathlib.Core.Bool.{Bool, true, false, not, _&&_, _||_, cond}
+use mathlib.Core.Bool.{true, false, _&&_}
 use Prim.Native.Nat.{ℕ, zero, suc, pred, _+_, _*_, _/_, _^_, _<_}
 use native.Mathlib.Nat.{zero-add, lt-irrefl, pow-succ', mul-left-comm, mul-one}
 use native.Mathlib.Omega.{arith}
@@ -10,7 +10,7 @@ use Rattle.grid.specs.declared.side.Side.the-variants.{West, East, South, North
 use Rattle.grid.specs.Sizes.{level-width, level-height}
 use Rattle.grid.specs.Hierarchies.{Hierarchy, live}
 use Rattle.model.specs.Fields.{Field}
-use Rattle.model.specs.Sums.{gate, sum}
+use Rattle.model.specs.Sums.{gate}
 use Rattle.model.specs.Groups.{Amounts}
 use Rattle.model.specs.Nesting.{Nested}
 use Rattle.model.specs.Interfaces.{Flux, Children}

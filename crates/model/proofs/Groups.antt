@@ -1,7 +1,7 @@
 -- Sums and differences in a commutative group.
 use mathlib.Core.Path.{_≡_, refl, sym, ap, ap₂, _∙_}
 use mathlib.Core.Bool.{Bool, true, false}
-use Prim.Native.Nat.{ℕ, zero, suc, _+_, _*_}
+use Prim.Native.Nat.{ℕ, zero, suc}
 use Rattle.amount.specs.Additions.{Addition, Sums}
 use Rattle.model.specs.Sums.{gate, sum}
 use Rattle.model.specs.Groups.{Amounts, Group, minus}

@@ -1,7 +1,7 @@
 -- Faces of the finer level are halves of faces of the coarser one, or lie inside one parent.
-use mathlib.Core.Path.{_≡_, refl, sym, ap, ap₂, _∙_, subst}
-use mathlib.Core.Bool.{Bool, true, false, not, _&&_, _||_}
-use Prim.Native.Nat.{ℕ, zero, suc, pred, _+_, _*_, _/_, _<_}
+use mathlib.Core.Path.{_≡_, refl, sym, ap, ap₂, _∙_}
+use mathlib.Core.Bool.{Bool}
+use Prim.Native.Nat.{ℕ, zero, suc, pred, _*_, _/_, _<_}
 use native.Mathlib.Nat.{suc-lt-of-lt-pred}
 use native.Mathlib.Omega.{arith}
 use Rattle.amount.specs.Additions.{Addition, Sums}

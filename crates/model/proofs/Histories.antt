@@ -1,6 +1,6 @@
 -- Every history balances.
-use mathlib.Core.Path.{_≡_, refl, sym, ap, ap₂, _∙_, subst, subst₂}
-use mathlib.Core.Bool.{Bool, true, false, not, _&&_, cond, true≢false, false≢true}
+use mathlib.Core.Path.{_≡_, refl, sym, ap, ap₂, _∙_, subst}
+use mathlib.Core.Bool.{Bool, true, false, cond, false≢true}
 use mathlib.Core.List.{List, [], _∷_, _++_}
 use Prim.Native.Nat.{ℕ, zero, suc, _+_, _/_, _≤_, _<_, zero-le}
 use native.Mathlib.Nat.{zero-add, suc-pred-eq-of-pos}
@@ -17,21 +17,19 @@ use Rattle.grid.specs.declared.patch.Patch.{Patch}
 use Rattle.grid.specs.declared.size.Size.{Size}
 use Rattle.grid.specs.Sizes.{in-range, in-mesh, level-width, level-height, sheet}
 use Rattle.grid.specs.Boxes.{held}
-use Rattle.grid.specs.Hierarchies.{Hierarchy, laid, live, leaf, mark}
+use Rattle.grid.specs.Hierarchies.{Hierarchy, live, leaf, mark}
 use Rattle.grid.proofs.Indices.{in-mesh-parts}
-use Rattle.model.specs.Fields.{Fields, write}
-use Rattle.model.specs.Sums.{gate}
 use Rattle.model.specs.Total.{level-total, composite-total}
 use Rattle.model.specs.States.{State, hierarchy, opened, poured-into, total, report}
-use Rattle.model.specs.Refusals.{Sheets, whole, marked, unless, pour-refusal, audit-refusal}
+use Rattle.model.specs.Refusals.{Sheets, whole, unless, pour-refusal, audit-refusal}
 use Rattle.model.specs.Calls.{Outcome, unless-refused, with-contents}
 use Rattle.model.specs.Groups.{Amounts, Group}
 use Rattle.model.specs.Nesting.{Nested, Well-laid}
 use Rattle.model.specs.Interfaces.{Flux, Children, child, Splits}
-use Rattle.model.specs.Step.{Restricted, inward, step}
+use Rattle.model.specs.Step.{Restricted, inward}
 use Rattle.model.specs.Wanted.{Flagging, Clustering, Clustered, Clusters, properly-nested, wanted}
-use Rattle.model.specs.Regrid.{with-patches, relaid, regridded, regrid}
-use Rattle.model.specs.Evolution.{step-refusal, regrid-refusal, boxes, step-inward, stepped, repatched, regrid-done, too-many, step-call, regrid-call}
+use Rattle.model.specs.Regrid.{relaid, regridded, regrid}
+use Rattle.model.specs.Evolution.{step-refusal, regrid-refusal, boxes, step-inward, stepped, repatched, regrid-done, too-many}
 use Rattle.model.specs.History.{Working, Call, to-pour, to-step, to-regrid, to-audit, Reply, done, came-inward, reported, lent, replying, outcome, after}
 use Rattle.model.specs.Ledger.{Ledger, entered, if-accepted, ledger-from, ledger, Lawful, All-lawful, Dead-zero, Audit-right, Regrid-right, Balances, History-balances, History-well-laid, History-dead-zero}
 use Rattle.model.proofs.Sums.{sum-nought}

@@ -1,9 +1,8 @@
 -- Well-laid patches make a nested hierarchy, and those that an accepted regrid lays are well laid.
-use mathlib.Core.Path.{_≡_, refl, sym, ap, ap₂, _∙_, subst, subst₂}
-use mathlib.Core.Bool.{Bool, true, false, not, _&&_, _||_, cond, true≢false, false≢true}
-use mathlib.Core.Logic.{_⊎_, inl, inr}
-use mathlib.Core.List.{List, [], _∷_}
-use Prim.Native.Nat.{ℕ, zero, suc, pred, _+_, _*_, _/_, _^_, _≤_, _<_}
+use mathlib.Core.Path.{_≡_, refl, sym, ap, _∙_, subst}
+use mathlib.Core.Bool.{Bool, true, false, _||_, cond, false≢true}
+use mathlib.Core.List.{List}
+use Prim.Native.Nat.{ℕ, zero, suc, _*_, _/_, _^_, _≤_, _<_}
 use native.Mathlib.Nat.{lt-irrefl, suc-inj}
 use native.Mathlib.Decide.{ℕ-discrete, decLt}
 use native.Mathlib.Omega.{arith}
@@ -13,12 +12,12 @@ use Rattle.std.proofs.shelf.Tests.{cond-true, cond-false, eq-eqb, ne-eqb}
 use Rattle.grid.specs.declared.patch.Patch.{Patch}
 use Rattle.grid.specs.declared.size.Size.{Size}
 use Rattle.grid.specs.Sizes.{level-width, level-height}
-use Rattle.grid.specs.Boxes.{no-patch, holds, held, Apart}
+use Rattle.grid.specs.Boxes.{no-patch, held, Apart}
 use Rattle.grid.specs.Hierarchies.{Patches, Hierarchy, laid, live}
 use Rattle.grid.proofs.Cover.{holds-parts, held-decides}
 use Rattle.model.specs.Fields.{Fields}
 use Rattle.model.specs.Nesting.{Nested, All-inside, Rings-live, Well-laid}
-use Rattle.model.specs.Rings.{ring-some, ring-every, child-some}
+use Rattle.model.specs.Rings.{ring-some}
 use Rattle.model.specs.Wanted.{Flagging, Clustered, buffer, nesting, properly-nested, wanted}
 use Rattle.model.specs.Regrid.{with-patches, relaid}
 use Rattle.model.proofs.Grids.{width-suc, height-suc}
@@ -60,7 +59,7 @@ module _ (s : Size) (patches : Patches) (wl : Well-laid s patches) where
     deep = covered-deep;
   }
 
-  -- A covered cell is properly-nested to stay covered.
+  -- A covered cell is properly nested.
   covered-nested : (l x y : ℕ) → M .covered l x y ≡ true → properly-nested M l x y ≡ true
   unfolding properly-nested
   covered-nested l x y c =
@@ -98,7 +97,7 @@ module _ (s : Size) (patches : Patches) (wl : Well-laid s patches) where
     off : l ≡ suc l → ⊥
     off e = lt-irrefl l (omega arith)
 
-    -- the layout is the old one with the boxes' cells covered on level l
+    -- the hierarchy is the old one with the boxes' cells covered on level l
     pub relaid-is : relaid M l (held boxes) ≡ M'
     unfolding with-patches
     relaid-is = λ i. record { size = s; covered = λ k x y. at k x y i }
@@ -116,7 +115,7 @@ module _ (s : Size) (patches : Patches) (wl : Well-laid s patches) where
         half : (X v w : ℕ) → v ≡ 2 * w → X < v → X / 2 < w
         half X v w e h = omega arith
 
-    -- The parent of a cell of level l + 1 that is covered, or has a covered cell in its ring, is nesting; it is covered, so properly-nested,
+    -- The parent of a cell of level l + 1 that is covered, or has a covered cell in its ring, is a nesting cell; it is covered, so properly nested,
     -- so wanted, so the boxes hold it: the cell stays live.
     kept-live : (X Y : ℕ) → X < level-width s (suc l) → Y < level-height s (suc l) → live M (suc l) X Y ≡ true
         → (M .covered (suc l) X Y || ring-some (level-width s (suc l)) (level-height s (suc l)) (M .covered (suc l)) X Y) ≡ true

@@ -1,21 +1,21 @@
 -- One level: what its uncovered cells gain.
-use mathlib.Core.Path.{_≡_, refl, sym, ap, ap₂, _∙_, subst}
-use mathlib.Core.Bool.{Bool, true, false, not, _&&_, _||_, cond}
-use Prim.Native.Nat.{ℕ, zero, suc, pred, _+_, _*_, _/_, _<_}
+use mathlib.Core.Path.{_≡_, refl, sym, ap, ap₂, _∙_}
+use mathlib.Core.Bool.{Bool, true, false, not, _&&_, cond}
+use Prim.Native.Nat.{ℕ, zero, suc}
 use Rattle.amount.specs.Additions.{Addition, Sums}
 use Rattle.grid.specs.Sizes.{level-width, level-height}
 use Rattle.grid.specs.Hierarchies.{Hierarchy, live, leaf}
 use Rattle.model.specs.Fields.{Field}
-use Rattle.model.specs.Sums.{gate, sum, area}
+use Rattle.model.specs.Sums.{gate, area}
 use Rattle.model.specs.Total.{level-total}
 use Rattle.model.specs.Groups.{Amounts, Group, minus}
 use Rattle.model.specs.Nesting.{Nested}
 use Rattle.model.specs.Interfaces.{Flux, Children}
-use Rattle.model.specs.Step.{Faces, flux-register, gain, halves, flux-registers, reflux, restrict, fluxes, advance, boundary-inward}
-use Rattle.model.proofs.Sums.{left-neutral, left-comm, pairs, sum-same, sum-plus, sum-swap}
+use Rattle.model.specs.Step.{Faces, gain, halves, flux-registers, reflux, restrict, fluxes, advance, boundary-inward}
+use Rattle.model.proofs.Sums.{left-neutral, pairs, sum-same, sum-swap}
 use Rattle.model.proofs.Groups.{minus-plus}
 use Rattle.model.proofs.Doubles.{area-plus}
-use Rattle.model.proofs.Faces.{edge, moved, lines-balance}
+use Rattle.model.proofs.Faces.{edge, lines-balance}
 use Rattle.model.proofs.Halves.{edge-halves, edge-plus}
 use Rattle.model.proofs.Grids.{width-suc, height-suc, row-line, column-line}
 

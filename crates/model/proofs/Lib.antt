@@ -17,3 +17,5 @@ pub mod Laid
 pub mod Dead
 pub mod Histories
 pub mod Examples
+pub mod Clusterings
+pub mod Beginnings

@@ -1,13 +1,13 @@
 -- A pour adds its amount to the composite total, and keeps that each covered cell holds the sum of its children.
-use mathlib.Core.Path.{_≡_, refl, sym, ap, ap₂, _∙_, subst, subst₂}
-use mathlib.Core.Bool.{Bool, true, false, not, _&&_, _||_, cond, true≢false, false≢true}
-use mathlib.Core.Logic.{_⊎_, inl, inr}
-use Prim.Native.Nat.{ℕ, zero, suc, pred, _+_, _*_, _/_, _%_, _≤_, _<_, zero-le}
+use mathlib.Core.Path.{_≡_, refl, sym, ap, ap₂, _∙_, subst}
+use mathlib.Core.Bool.{Bool, true, false, not, _&&_, cond, true≢false, false≢true}
+use mathlib.Core.Logic.{inl, inr}
+use Prim.Native.Nat.{ℕ, zero, suc, _+_, _*_, _≤_, _<_}
 use native.Mathlib.Nat.{eq-or-lt-of-le, le-of-suc-le-suc, lt-irrefl, lt-suc-self, lt-trans, suc-add, add-suc, add-zero, le-refl, le-of-lt}
 use native.Mathlib.Decide.{ℕ-discrete}
 use native.Mathlib.Omega.{arith}
 use lib.Dec.{eqb}
-use Rattle.std.proofs.shelf.Tests.{cond-true, cond-false, cond-both, eq-eqb, ne-eqb, eqb-true}
+use Rattle.std.proofs.shelf.Tests.{cond-both, eq-eqb, ne-eqb, eqb-true}
 use Rattle.amount.specs.Additions.{Addition, Sums}
 use Rattle.grid.specs.Sizes.{level-width, level-height}
 use Rattle.grid.specs.Hierarchies.{Hierarchy, live, leaf}
@@ -100,7 +100,7 @@ module _ {A : Type 0} (G : Addition A) (laws : Sums G) where
   unfolding children-sum
   children-sum-plus f g i j = ap₂ _⊕_ (ap₂ _⊕_ (pairs G laws _ _ _ _) refl ∙ pairs G laws _ _ _ _) refl ∙ pairs G laws _ _ _ _
 
-  -- of the children-sum of a cell only the south-west one can be at (2x, 2y)
+  -- of the children of a cell only the south-west one can be at (2x, 2y)
   children-sum-corner : (x y i j : ℕ) (a : A) → children-sum G (λ X Y. gate G (eqb X (2 * x) && eqb Y (2 * y)) a) i j ≡ gate G (eqb i x && eqb j y) a
   unfolding children-sum
   children-sum-corner x y i j a =
@@ -177,7 +177,7 @@ module _ {A : Type 0} (G : Addition A) (laws : Sums G) where
         finer
         ∙ last _ _ _)
 
-    -- the cell and its children-sum, where the cell is covered and poured into
+    -- the cell and its children, where the cell is covered and poured into
     deep-here : (d l x y : ℕ) (a : A) (u : Fields A) (i j : ℕ) → suc l < l + suc d → u l i j ≡ children-sum G (u (suc l)) i j
         → pour G M d (suc l) (2 * x) (2 * y) a (write l (added G x y a (u l)) u) l i j
         ≡ children-sum G (pour G M d (suc l) (2 * x) (2 * y) a (write l (added G x y a (u l)) u) (suc l)) i j

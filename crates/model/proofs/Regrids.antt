@@ -1,9 +1,9 @@
 -- A regrid keeps the composite total, and that each covered cell holds the sum of its children.
 use mathlib.Core.Path.{_≡_, refl, sym, ap, ap₂, _∙_, subst, subst₂}
-use mathlib.Core.Bool.{Bool, true, false, not, _&&_, _||_, cond, true≢false, false≢true}
-use mathlib.Core.Logic.{_⊎_, inl, inr}
-use Prim.Native.Nat.{ℕ, zero, suc, pred, _+_, _*_, _/_, _%_, _≤_, _<_, zero-le}
-use native.Mathlib.Nat.{eq-or-lt-of-le, suc-inj, lt-irrefl, lt-suc-self, lt-trans}
+use mathlib.Core.Bool.{Bool, true, false, not, _&&_, cond, false≢true}
+use mathlib.Core.Logic.{inl, inr}
+use Prim.Native.Nat.{ℕ, zero, suc, _+_, _*_, _/_, _%_, _≤_, _<_, zero-le}
+use native.Mathlib.Nat.{eq-or-lt-of-le, suc-inj, lt-irrefl}
 use native.Mathlib.Decide.{ℕ-discrete}
 use native.Mathlib.Omega.{arith}
 use lib.Dec.{eqb}
@@ -11,8 +11,8 @@ use Rattle.std.proofs.shelf.Tests.{cond-true, cond-false, eq-eqb, ne-eqb}
 use Rattle.amount.specs.Additions.{Addition, Sums}
 use Rattle.grid.specs.Sizes.{level-width, level-height}
 use Rattle.grid.specs.Hierarchies.{Hierarchy, live, leaf}
-use Rattle.model.specs.Fields.{Field, Fields, write}
-use Rattle.model.specs.Sums.{gate, sum, area}
+use Rattle.model.specs.Fields.{Field, Fields}
+use Rattle.model.specs.Sums.{gate, area}
 use Rattle.model.specs.Total.{level-total, composite-total}
 use Rattle.model.specs.Nesting.{Nested}
 use Rattle.model.specs.Interfaces.{Children, child, Splits}
@@ -38,7 +38,7 @@ module _ {A : Type 0} (G : Addition A) (laws : Sums G) where
   pub four-same : {a b c d a' b' c' d' : A} → a ≡ a' → b ≡ b' → c ≡ c' → d ≡ d' → a ⊕ b ⊕ c ⊕ d ≡ a' ⊕ b' ⊕ c' ⊕ d'
   four-same p q r s = ap₂ _⊕_ (ap₂ _⊕_ (ap₂ _⊕_ p q) r) s
 
-  -- the sum over a finer grid, four children-sum by four
+  -- the sum over a finer grid, four children by four
   area-twice : (w h : ℕ) (f : Field A) → area G (2 * w) (2 * h) f ≡ area G w h (children-sum G f)
   unfolding children-sum
   area-twice w h f =
@@ -59,7 +59,7 @@ module _ {A : Type 0} (G : Addition A) (laws : Sums G) where
       pick X Y i j e f =
           ap₂ (λ a b. cond (eqb b 0) (cond (eqb a 0) (q .sw) (q .se)) (cond (eqb a 0) (q .nw) (q .ne))) e f
 
-  -- a function of a child and of its parent, summed over the four children-sum
+  -- a function of a child and of its parent, summed over the four children
   children-sum-parent : (f : ℕ → ℕ → ℕ → ℕ → A) (x y : ℕ)
       → children-sum G (λ X Y. f (X / 2) (Y / 2) X Y) x y ≡ children-sum G (λ X Y. f x y X Y) x y
   unfolding children-sum
@@ -84,8 +84,8 @@ module _ {A : Type 0} (G : Addition A) (laws : Sums G) where
   bare true a h = absurd (h refl)
   bare false a h = refl
 
-  -- One cell of level l with its four children-sum: u its content, w the children-sum's, s the split's; c whether it was covered, c' whether
-  -- it is; cc which children-sum are covered.
+  -- One cell of level l with its four children: u its content, w the children's, s the split's; c whether it was covered, c' whether
+  -- it is; cc which children are covered.
   patch : (lv c c' : Bool) (u : A) (w s : Field A) (cc : ℕ → ℕ → Bool) (x y : ℕ)
       → (c ≡ true → lv ≡ true) → (c' ≡ true → lv ≡ true)
       → ((X Y : ℕ) → X / 2 ≡ x → Y / 2 ≡ y → cc X Y ≡ true → (c ≡ true) × (c' ≡ true))
@@ -149,7 +149,7 @@ module _ {A : Type 0} (G : Addition A) (laws : Sums G) where
     live-other zero x y h = refl
     live-other (suc k) x y h = covered-other k (x / 2) (y / 2) (λ e. h (ap suc e))
 
-    -- the children-sum of covered cells stay live
+    -- the children of covered cells stay live
     stays : (X Y : ℕ) → M .covered (suc l) X Y ≡ true → (M .covered l (X / 2) (Y / 2) ≡ true) × (chosen (X / 2) (Y / 2) ≡ true)
     stays X Y t = (
       N .itself (suc l) X Y t,

@@ -1,14 +1,14 @@
 -- After a step each covered cell holds the sum of its children.
-use mathlib.Core.Path.{_≡_, refl, sym, ap, ap₂, _∙_, subst}
-use mathlib.Core.Bool.{Bool, true, false, cond}
-use mathlib.Core.Logic.{_⊎_, inl, inr}
+use mathlib.Core.Path.{_≡_, sym, ap, _∙_, subst}
+use mathlib.Core.Bool.{true}
+use mathlib.Core.Logic.{inl, inr}
 use Prim.Native.Nat.{ℕ, zero, suc, _+_, _≤_, _<_, zero-le}
 use native.Mathlib.Nat.{eq-or-lt-of-le, lt-suc-self, lt-trans}
 use native.Mathlib.Omega.{arith}
 use Rattle.std.proofs.shelf.Tests.{cond-true}
 use Rattle.grid.specs.Hierarchies.{Hierarchy}
 use Rattle.model.specs.Fields.{Field, Fields, write}
-use Rattle.model.specs.Groups.{Amounts, Group}
+use Rattle.model.specs.Groups.{Amounts}
 use Rattle.model.specs.Interfaces.{Flux, Children}
 use Rattle.model.specs.Step.{children-sum, restrict, level-step, step}
 use Rattle.model.specs.Balance.{Step-restricts}

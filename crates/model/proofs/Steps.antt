@@ -1,21 +1,18 @@
 -- The whole step, level by level.
-use mathlib.Core.Path.{_≡_, refl, sym, ap, ap₂, _∙_, subst}
-use mathlib.Core.Bool.{Bool, true, false, cond}
-use Prim.Native.Nat.{ℕ, zero, suc, pred, _+_, _*_, _/_, _<_}
-use native.Mathlib.Nat.{add-zero, add-suc, suc-add, zero-add, lt-irrefl, lt-suc-self, le-of-lt, lt-trans}
-use native.Mathlib.Omega.{arith}
+use mathlib.Core.Path.{_≡_, refl, sym, ap, ap₂, _∙_}
+use mathlib.Core.Bool.{false}
+use Prim.Native.Nat.{ℕ, zero, suc, _+_}
+use native.Mathlib.Nat.{add-zero, add-suc, suc-add, lt-suc-self, le-of-lt}
 use Rattle.amount.specs.Additions.{Addition, Sums}
-use Rattle.grid.specs.Sizes.{level-width, level-height}
-use Rattle.grid.specs.Hierarchies.{Hierarchy, live, leaf}
-use Rattle.model.specs.Fields.{Field, Fields, write}
-use Rattle.model.specs.Sums.{gate, sum, area}
+use Rattle.grid.specs.Hierarchies.{Hierarchy, live}
+use Rattle.model.specs.Fields.{Field, Fields}
 use Rattle.model.specs.Total.{level-total, composite-total}
 use Rattle.model.specs.Groups.{Amounts, Group}
 use Rattle.model.specs.Nesting.{Nested}
 use Rattle.model.specs.Interfaces.{Flux, Children}
-use Rattle.model.specs.Step.{Faces, flux-registers, reflux, restrict, fluxes, advance, level-step, boundary-inward, inward, step}
+use Rattle.model.specs.Step.{Faces, fluxes, level-step, inward, step}
 use Rattle.model.specs.Balance.{Step-conserves}
-use Rattle.model.proofs.Sums.{left-neutral, left-comm, pairs}
+use Rattle.model.proofs.Sums.{left-neutral, left-comm}
 use Rattle.model.proofs.Writes.{write-same, total-above}
 use Rattle.model.proofs.Halves.{edge-flat}
 use Rattle.model.proofs.Grids.{base-live, bottom}

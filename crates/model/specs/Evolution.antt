@@ -7,7 +7,6 @@ use lib.ListN.{length, replicate}
 use Rattle.std.specs.declared.option.Option.{Option}
 use Rattle.std.specs.declared.option.Option.the-variants.{None}
 use Rattle.std.specs.declared.result.Result.the-variants.{Ok, Err}
-use Rattle.amount.specs.Additions.{Addition}
 use Rattle.grid.specs.declared.patch.Patch.{Patch}
 use Rattle.grid.specs.Sizes.{level-width, level-height, sheet-length, sheet}
 use Rattle.grid.specs.Boxes.{held}
@@ -106,6 +105,7 @@ module _ {A : Type 0} (G : Amounts A) where
   abbrev pub too-many : State A → Sheets A → Outcome A (Unit {0})
   too-many s sheets = record { answer = Err 8; state = s; sheets = with-none-wanted s sheets }
 
+  -- A regrid of level l asks the clustering and lays its boxes.
   abbrev pub regrid-call : State A → Sheets A → ℕ → Flagging A → (A → Children A) → Clustering → Outcome A (Unit {0})
   regrid-call s sheets l flag split cluster =
       unless-refused (regrid-refusal s sheets l) s sheets

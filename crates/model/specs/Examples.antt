@@ -1,6 +1,6 @@
 -- Two histories worked out, of whole numbers.
 use mathlib.Core.Path.{_≡_}
-use mathlib.Core.Bool.{Bool, false}
+use mathlib.Core.Bool.{false}
 use mathlib.Core.List.{List, [], _∷_, _++_}
 use Prim.Native.Nat.{ℕ, _*_, _/_, _^_}
 use lib.Dec.{leb}
@@ -40,6 +40,7 @@ entering l East a = negℤ (quarter a)
 entering l South a = pos 0
 entering l North a = pos 0
 
+-- the flux of both
 abbrev pub eastward : Flux ℤ
 eastward = record { interior = λ l d low high. moving d low; boundary = λ l s place steps a. entering l s a }
 
@@ -51,6 +52,7 @@ even a = record { sw = quarter (a +ℤ pos 3); se = quarter (a +ℤ pos 2); nw =
 abbrev pub from : ℕ → Flagging ℤ
 from n l x y a around = leb (n * 2 ^ l) x
 
+-- yes to none
 abbrev pub nowhere : Flagging ℤ
 nowhere l x y a around = false
 
@@ -83,10 +85,11 @@ pub record Small-example : Type 0 where
   pub audit : outcome whole-numbers (small-mesh (poured-and-stepped ++ (no-such-regrid ∷ []))) (to-audit (zeros 20)) .answer
       ≡ Ok (reported (record { steps = 1; total = pos 150; poured = pos 110; inward = pos 40 }))
 
--- Three levels over 8 by 1 base cells: a regrid of a level.
+-- a regrid of level l on three levels over 8 by 1 base cells
 abbrev pub regrid-of : ℕ → Flagging ℤ → Call ℤ
 regrid-of l flag = to-regrid (zeros 168) l flag even runs
 
+-- level 0 refined from base column 4 on, then level 1
 abbrev pub both-refined : List (Call ℤ)
 both-refined = regrid-of 0 (from 4) ∷ regrid-of 1 (from 4) ∷ []
 

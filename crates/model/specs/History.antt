@@ -47,6 +47,7 @@ abbrev pub as-reply : {A B : Type 0} → (B → Reply A) → Result B ℕ → Re
 as-reply reply (Ok b) = Ok (reply b)
 as-reply reply (Err n) = Err n
 
+-- an outcome with its answer as a reply
 abbrev pub replying : {A B : Type 0} → (B → Reply A) → Outcome A B → Outcome A (Reply A)
 replying reply o = record { answer = as-reply reply (o .answer); state = o .state; sheets = o .sheets }
 

@@ -3,7 +3,7 @@ use mathlib.Core.Path.{_≡_}
 use mathlib.Core.Bool.{true, false, cond}
 use mathlib.Core.List.{List, [], _∷_, _++_}
 use Prim.Native.Nat.{ℕ, _+_, _<_}
-use Rattle.std.specs.declared.result.Result.the-variants.{Ok}
+use Rattle.std.specs.declared.result.Result.the-variants.{Ok, Err}
 use Rattle.std.specs.Results.{isOk}
 use Rattle.amount.specs.Additions.{Addition}
 use Rattle.grid.specs.declared.size.Size.{Size}
@@ -11,7 +11,8 @@ use Rattle.grid.specs.Sizes.{in-range, level-width, level-height, sheet}
 use Rattle.grid.specs.Boxes.{Apart}
 use Rattle.grid.specs.Hierarchies.{live, leaf, mark}
 use Rattle.model.specs.States.{State, hierarchy, opened, total}
-use Rattle.model.specs.Calls.{Outcome}
+use Rattle.model.specs.Refusals.{Sheets}
+use Rattle.model.specs.Calls.{Outcome, open-call}
 use Rattle.model.specs.Groups.{Amounts, Group}
 use Rattle.model.specs.Nesting.{Rings-live, Well-laid}
 use Rattle.model.specs.Interfaces.{Splits}
@@ -57,6 +58,7 @@ module _ {A : Type 0} (G : Amounts A) where
   Lawful (to-regrid w l flag split cluster) = Splits addition split × Clusters cluster
   Lawful (to-audit w) = Unit {0}
 
+  -- each call of a list is lawful
   abbrev pub All-lawful : List (Call A) → Type 0
   All-lawful [] = Unit {0}
   All-lawful (c ∷ cs) = Lawful c × All-lawful cs
@@ -115,3 +117,14 @@ abbrev pub History-dead-zero : Type 0 → Type 0
 History-dead-zero A =
     (G : Amounts A) → Group G → (size : Size) → in-range size ≡ true → (calls : List (Call A)) → All-lawful G calls
     → Dead-zero G (after G (opened (G .addition) size) calls)
+
+-- An accepted opening leaves the mesh that histories begin with, of a size in range, and its contents and marks.
+abbrev pub Opening-right : Type 0 → Type 0
+Opening-right A =
+    (G : Addition A) (size : Size) (sheets : Sheets A) (s : State A) → open-call G size sheets .mesh ≡ Ok s
+    → (in-range size ≡ true) × (s ≡ opened G size) × (open-call G size sheets .sheets .contents ≡ sheet size (s .contents))
+    × (open-call G size sheets .sheets .marks ≡ sheet size (mark (hierarchy s)))
+
+-- No call of a history finds marks that differ from what the patches say.
+abbrev pub Marks-never-refused : Type 0 → Type 0
+Marks-never-refused A = (G : Amounts A) (s : State A) (c : Call A) → outcome G s c .answer ≡ Err 5 → ⊥

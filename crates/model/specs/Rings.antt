@@ -8,10 +8,11 @@ use Rattle.grid.specs.Cells.{touching}
 unfoldable pub some-near : ℕ → (ℕ → Bool) → Bool
 some-near x p = p (pred x) || p x || p (suc x)
 
--- in a grid w wide and h high, some cell of the ring of (x, y) passes; and every one does
+-- in a grid w wide and h high, some cell of the ring of (x, y) passes
 unfoldable pub ring-some : (w h : ℕ) → (ℕ → ℕ → Bool) → ℕ → ℕ → Bool
 ring-some w h p x y = some-near x (λ u. some-near y (λ v. ltb u w && ltb v h && touching x y u v && p u v))
 
+-- every cell of the ring passes
 unfoldable pub ring-every : (w h : ℕ) → (ℕ → ℕ → Bool) → ℕ → ℕ → Bool
 ring-every w h p x y = not (ring-some w h (λ u v. not (p u v)) x y)
 

@@ -1,7 +1,7 @@
 -- One composite step: fluxes, flux registers, reflux, restriction, and the two substeps of each finer level.
 use mathlib.Core.Path.{_≡_}
-use mathlib.Core.Bool.{Bool, true, not, _&&_, _||_, cond}
-use Prim.Native.Nat.{ℕ, zero, suc, pred, _+_, _*_, _/_}
+use mathlib.Core.Bool.{Bool, true, _&&_, _||_, cond}
+use Prim.Native.Nat.{ℕ, zero, suc, pred, _*_, _/_}
 use lib.Dec.{ltb}
 use Rattle.amount.specs.Additions.{Addition}
 use Rattle.grid.specs.declared.side.Side.the-variants.{West, East, South, North}

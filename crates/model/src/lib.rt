@@ -1,7 +1,8 @@
 // What the calls of a mesh mean, as definitions on fields of amounts: see specs/. A function here carries a theorem about them in its
 // contract.
 ghost use Rattle.model.specs.Balance.{Step-conserves, Step-restricts, Regrid-conserves};
-ghost use Rattle.model.specs.Ledger.{History-balances, History-well-laid, History-dead-zero};
+ghost use Rattle.model.specs.Ledger.{History-balances, History-well-laid, History-dead-zero, Opening-right, Marks-never-refused};
+ghost use Rattle.model.specs.Clusterings.{Clusterings-lawful};
 ghost use Rattle.model.specs.Examples.{Small-example, Nesting-example};
 
 mod direction;
@@ -48,6 +49,27 @@ pub fn history_well_laid<V>() -> u8
 // In every history a cell that is not live holds zero.
 pub fn history_dead_zero<V>() -> u8
     ensures { λ _. ⌜ History-dead-zero V ⌝ }
+{
+    0
+}
+
+// An accepted opening leaves the mesh that histories begin with, and its contents and marks.
+pub fn opening_begins<V>() -> u8
+    ensures { λ _. ⌜ Opening-right V ⌝ }
+{
+    0
+}
+
+// No call of a history is refused because its marks differ from what the patches say.
+pub fn marks_never_refused<V>() -> u8
+    ensures { λ _. ⌜ Marks-never-refused V ⌝ }
+{
+    0
+}
+
+// The clusterings by runs and by cells keep the law of clusterings, so that histories speak of them.
+pub fn clusterings_lawful() -> u8
+    ensures { λ _. ⌜ Clusterings-lawful ⌝ }
 {
     0
 }
