@@ -17,14 +17,14 @@ use Rattle.model.proofs.Writes.{write-same, write-other}
 use Rattle.model.proofs.Pours.{at-corner}
 
 module _ {A : Type 0} (G : Amounts A) (M : Hierarchy) (L : ℕ) (N : Nested M L) where
-  not-covered : (l x y : ℕ) → live M l x y ≡ false → M .covered l x y ≡ false
+  pub not-covered : (l x y : ℕ) → live M l x y ≡ false → M .covered l x y ≡ false
   not-covered l x y h = not-so _ (λ c. true≢false (sym (N .itself l x y c) ∙ h))
 
   not-leaf : (l x y : ℕ) → live M l x y ≡ false → leaf M l x y ≡ false
   not-leaf l x y h = ap (λ b. b && not (M .covered l x y)) h
 
   module _ (F : Flux A) (split : A → Children A) (steps : ℕ) where
-    level-dead : (d l : ℕ) (cb : Field A) (u : Fields A) (k x y : ℕ) → live M k x y ≡ false
+    pub level-dead : (d l : ℕ) (cb : Field A) (u : Fields A) (k x y : ℕ) → live M k x y ≡ false
         → level-step G M F split steps d l cb u k x y ≡ u k x y
     unfolding level-step restrict reflux advance
     level-dead zero l cb u k x y h = refl

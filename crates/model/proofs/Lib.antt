@@ -19,3 +19,4 @@ pub mod Histories
 pub mod Examples
 pub mod Clusterings
 pub mod Beginnings
+pub mod Idle

@@ -1,15 +1,15 @@
--- What a step and a regrid keep.
+-- What a step and a regrid keep, and what a level step on a level without live cells does.
 use mathlib.Core.Path.{_≡_}
-use mathlib.Core.Bool.{Bool}
+use mathlib.Core.Bool.{Bool, false}
 use Prim.Native.Nat.{ℕ, suc, _<_}
 use Rattle.amount.specs.Additions.{Addition, Sums}
-use Rattle.grid.specs.Hierarchies.{Hierarchy}
-use Rattle.model.specs.Fields.{Fields}
+use Rattle.grid.specs.Hierarchies.{Hierarchy, live}
+use Rattle.model.specs.Fields.{Field, Fields}
 use Rattle.model.specs.Total.{composite-total}
 use Rattle.model.specs.Groups.{Amounts, Group}
 use Rattle.model.specs.Nesting.{Nested}
 use Rattle.model.specs.Interfaces.{Flux, Children, Splits}
-use Rattle.model.specs.Step.{Restricted, inward, step}
+use Rattle.model.specs.Step.{level-step, step, inward, Restricted}
 use Rattle.model.specs.Regrid.{relaid, regrid}
 
 -- A step changes the composite total by exactly its inward amount, whatever the flux, the split and the contents.
@@ -24,6 +24,14 @@ abbrev pub Step-restricts : Type 0 → Type 0
 Step-restricts A =
     (G : Amounts A) → Group G → (M : Hierarchy) (L : ℕ) → Nested M L → (F : Flux A) (split : A → Children A) (steps : ℕ) (u : Fields A)
     → Restricted (G .addition) M (step G M F split steps L u)
+
+-- Where no cell of level l is live, so that none of the level before it is covered, a level step on it changes nothing and has no inward
+-- amount: it is the same to make it or not.
+abbrev pub Idle-level : Type 0 → Type 0
+Idle-level A =
+    (G : Amounts A) → Group G → (M : Hierarchy) (L : ℕ) → Nested M L → (F : Flux A) (split : A → Children A) (steps : ℕ)
+    → (d l : ℕ) → ((x y : ℕ) → live M l x y ≡ false) → (coarser : Field A) (u : Fields A)
+    → (level-step G M F split steps d l coarser u ≡ u) × (inward G M F split steps d l u ≡ G .addition .zero)
 
 -- A regrid of a level that has a next one, from nested to nested, keeps the composite total, and that each covered cell holds the sum
 -- of its children, whichever cells it leaves covered.

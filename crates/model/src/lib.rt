@@ -1,6 +1,6 @@
 // What the calls of a mesh mean, as definitions on fields of amounts: see specs/. A function here carries a theorem about them in its
 // contract.
-ghost use Rattle.model.specs.Balance.{Step-conserves, Step-restricts, Regrid-conserves};
+ghost use Rattle.model.specs.Balance.{Step-conserves, Step-restricts, Idle-level, Regrid-conserves};
 ghost use Rattle.model.specs.Ledger.{History-balances, History-well-laid, History-dead-zero, Opening-right, Marks-never-refused};
 ghost use Rattle.model.specs.Clusterings.{Clusterings-lawful};
 ghost use Rattle.model.specs.Examples.{Small-example, Nesting-example};
@@ -19,6 +19,13 @@ pub fn step_conserves<V>() -> u8
 // After a step each covered cell holds the sum of its children.
 pub fn step_restricts<V>() -> u8
     ensures { λ _. ⌜ Step-restricts V ⌝ }
+{
+    0
+}
+
+// A level step on a level without live cells changes nothing and has no inward amount.
+pub fn idle_level<V>() -> u8
+    ensures { λ _. ⌜ Idle-level V ⌝ }
 {
     0
 }
