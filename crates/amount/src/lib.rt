@@ -1,4 +1,6 @@
 // Amounts: whole signed quantities that are added in any order and taken away again, and never lost.
+#![tactic(auto)]
+
 mod amount;
 mod sums;
 mod volume;

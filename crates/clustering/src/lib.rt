@@ -1,4 +1,6 @@
 // Clusterings: patches that cover the wanted cells of a level.
+#![tactic(auto)]
+
 mod row_runs;
 mod rows;
 mod single_cells;

@@ -1,4 +1,6 @@
 // Flux rules for any reach: advection of volumes, and a feed over any rule.
+#![tactic(auto)]
+
 mod advection;
 mod advection_flux;
 mod feed;

@@ -1,4 +1,6 @@
 // The geometry of a block-structured mesh: levels, cells and their sheets, patches, and what the marks must be.
+#![tactic(auto)]
+
 mod cells;
 mod geometry;
 mod layout;

@@ -1,5 +1,7 @@
 // What a mesh is told: how much moves between cells, how a parent's content is split, which cells are flagged, and which patches
 // cover the wanted cells. An answer is a fixed function of the implementation's value and of what is asked.
+#![tactic(auto)]
+
 mod cells;
 mod clustering;
 mod flagging;

@@ -1,4 +1,5 @@
 // Tests of the libraries through their public functions.
+#![tactic(auto)]
 #[cfg(test)]
 mod amount_tests;
 #[cfg(test)]

@@ -1,4 +1,6 @@
 // A mesh and its calls: open, pour and audit, over five lent sheets.
+#![tactic(auto)]
+
 mod audit;
 mod clear;
 mod mesh;
@@ -8,3 +10,4 @@ mod total;
 
 pub use audit::Audit;
 pub use mesh::Mesh;
+pub use sheets::{Refusal, Sheets};

@@ -7,7 +7,7 @@ use syntax::{Choice, Fault, Phase, due, read_choice, read_up_to, read_word};
 use text::{field, field_count, number_field};
 
 // The amount kind that a scenario names.
-#[derive(Clone, Copy)]
+#[derive(Clone, Copy, PartialEq, Eq)]
 pub enum KindName {
     Volume,
     Water,

@@ -1,4 +1,6 @@
 // The reader of a scenario: what each line says, or why it is refused.
+#![tactic(auto)]
+
 mod command;
 mod header;
 mod kind;
@@ -10,3 +12,4 @@ pub use command::Command;
 pub use header::{KindName, read_mesh};
 pub use kind::Kind;
 pub use line::read_line;
+pub use syntax::{Fault, Layer, Phase};

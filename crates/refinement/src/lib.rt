@@ -1,4 +1,6 @@
 // Where a mesh is refined, and what the children of a refined cell hold.
+#![tactic(auto)]
+
 mod even_split;
 mod first_child;
 mod from_column;

@@ -1,87 +1,52 @@
 // A command on the mesh.
 ghost use Rattle.std.specs.Prelude.{◌≡◌};
-ghost use Rattle.reader.specs.declared.command.Command.TheVariants.{Pour, Audit as ToAudit};
-ghost use Rattle.scenario.specs.Answers.{told, executed};
+ghost use Rattle.sheets.specs.Lists.{lent, left};
 ghost use Rattle.mesh.specs.Reads.{state_of};
-ghost use Rattle.sheets.specs.Lists.{lists};
+ghost use Rattle.scenario.specs.Answers.{told, executed};
 
 use mesh::{Audit, Mesh};
 use reader::{Command, Kind};
 use sheets::Sheets;
 use syntax::Fault;
 
-// Pours. What the mesh refuses becomes the fault of the line.
-fn pour<V: Kind>(
-    mesh: &mut Mesh<V>,
-    contents: &mut [V],
-    before: &mut [V],
-    corrections: &mut [V],
-    marks: &mut [u8],
-    wanted: &mut [u8],
-    x: usize,
-    y: usize,
-    amount: V,
-) -> Result<Option<Audit<V>>, Fault>
-    ensures { record { answer = told result; state = state_of V.Amount.addition mesh.new (lists contents.new before.new corrections.new marks.new wanted.new); sheets = (lists contents.new before.new corrections.new marks.new wanted.new) } ≡ executed V.Amount.addition (state_of V.Amount.addition mesh.old (lists contents.old before.old corrections.old marks.old wanted.old)) (lists contents.old before.old corrections.old marks.old wanted.old) (Pour x y amount) }
-{
-    let sheets = Sheets {
-        contents,
-        before,
-        corrections,
-        marks,
-        wanted,
-    };
-    mesh.pour(sheets, x, y, amount)?;
-    Ok(None)
-}
-
-// Audits.
-fn audit<V: Kind>(
-    mesh: &mut Mesh<V>,
-    contents: &mut [V],
-    before: &mut [V],
-    corrections: &mut [V],
-    marks: &mut [u8],
-    wanted: &mut [u8],
-) -> Result<Option<Audit<V>>, Fault>
-    ensures { record { answer = told result; state = state_of V.Amount.addition mesh.new (lists contents.new before.new corrections.new marks.new wanted.new); sheets = (lists contents.new before.new corrections.new marks.new wanted.new) } ≡ executed V.Amount.addition (state_of V.Amount.addition mesh.old (lists contents.old before.old corrections.old marks.old wanted.old)) (lists contents.old before.old corrections.old marks.old wanted.old) ToAudit }
-{
-    let sheets = Sheets {
-        contents,
-        before,
-        corrections,
-        marks,
-        wanted,
-    };
-    let audit = mesh.audit(&sheets)?;
-    Ok(Some(audit))
-}
-
-// Does what a command says.
+// Does what a command says. What the mesh refuses becomes the fault of the line.
 pub(crate) fn execute<V: Kind>(
     mesh: &mut Mesh<V>,
-    contents: &mut [V],
-    before: &mut [V],
-    corrections: &mut [V],
-    marks: &mut [u8],
-    wanted: &mut [u8],
+    sheets: Sheets<'_, V>,
     command: Command<V>,
 ) -> Result<Option<Audit<V>>, Fault>
-    ensures { record { answer = told result; state = state_of V.Amount.addition mesh.new (lists contents.new before.new corrections.new marks.new wanted.new); sheets = (lists contents.new before.new corrections.new marks.new wanted.new) } ≡ executed V.Amount.addition (state_of V.Amount.addition mesh.old (lists contents.old before.old corrections.old marks.old wanted.old)) (lists contents.old before.old corrections.old marks.old wanted.old) command }
+    ensures { record { answer = told result; state = state_of V.Amount.addition mesh.new (left sheets.exit); sheets = left sheets.exit } ≡ executed V.Amount.addition (state_of V.Amount.addition mesh.old (lent sheets.entry)) (lent sheets.entry) command }
 {
+    let Sheets {
+        contents,
+        before,
+        corrections,
+        marks,
+        wanted,
+    } = sheets;
     match command {
         Command::Header => Ok(None),
-        Command::Pour { x, y, amount } => pour(
-            mesh,
-            contents,
-            before,
-            corrections,
-            marks,
-            wanted,
-            x,
-            y,
-            amount,
-        ),
-        Command::Audit => audit(mesh, contents, before, corrections, marks, wanted),
+        Command::Pour { x, y, amount } => {
+            let sheets = Sheets {
+                contents,
+                before,
+                corrections,
+                marks,
+                wanted,
+            };
+            mesh.pour(sheets, x, y, amount)?;
+            Ok(None)
+        }
+        Command::Audit => {
+            let sheets = Sheets {
+                contents,
+                before,
+                corrections,
+                marks,
+                wanted,
+            };
+            let audit = mesh.audit(&sheets)?;
+            Ok(Some(audit))
+        }
     }
 }

@@ -54,16 +54,14 @@ fn open_and_run<V: Kind>(
         Ok(mesh) => mesh,
         Err(refusal) => return write_fault(out, 1, Fault::from(refusal)),
     };
-    run_lines(
-        out,
-        &mut mesh,
+    let sheets = Sheets {
         contents,
         before,
         corrections,
         marks,
         wanted,
-        text,
-    )
+    };
+    run_lines(out, &mut mesh, sheets, text)
 }
 
 // Runs the lines after the first, with amounts of one kind.

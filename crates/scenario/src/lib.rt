@@ -1,4 +1,6 @@
 // A scenario, from its bytes to what is printed.
+#![tactic(auto)]
+
 mod execute;
 mod file;
 mod lines;

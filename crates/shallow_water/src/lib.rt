@@ -1,4 +1,6 @@
 // The flux rule of shallow water.
+#![tactic(auto)]
+
 mod along;
 mod crossings;
 mod directed;

@@ -1,6 +1,6 @@
 -- The five sheets of a call as lists. Assumes nothing.
 use Rattle.std.specs.Prelude.{List, ℕ}
-use Rattle.std.specs.Borrow.{Bor}
+use Rattle.std.specs.Borrow.{MutBor}
 use Rattle.model.specs.Refusals.{Sheets}
 use Rattle.sheets.specs.declared.lent.Sheets.{Sheets as Slices}
 
@@ -18,5 +18,5 @@ lists contents before corrections marks wanted = record {
 abbrev pub lent : {A : Type 0} → Slices A → Sheets A
 lent s = lists s.contents.now s.before.now s.corrections.now s.marks.now s.wanted.now
 
-abbrev pub left : {A : Type 0} → Bor (List A) × (Bor (List A) × (Bor (List A) × (Bor (List ℕ) × (Bor (List ℕ) × Unit {0})))) → Sheets A
+abbrev pub left : {A : Type 0} → MutBor (List A) × (MutBor (List A) × (MutBor (List A) × (MutBor (List ℕ) × (MutBor (List ℕ) × Unit {0})))) → Sheets A
 left s = lists s.0.now s.1.0.now s.1.1.0.now s.1.1.1.0.now s.1.1.1.1.0.now

@@ -1,4 +1,6 @@
 // What every call of a mesh is lent, five sheets, and why a call is turned away.
+#![tactic(auto)]
+
 mod lent;
 mod marks;
 mod number;

@@ -1,7 +1,7 @@
 use sheets::Refusal;
 
 // Why a line, or the whole file, was refused: by the reader, or by the mesh with its own refusal.
-#[derive(Clone, Copy)]
+#[derive(Clone, Copy, PartialEq, Eq, Debug)]
 pub enum Fault {
     // 10: the file is over 12,288 bytes, or its last line is unended
     File,
@@ -18,7 +18,7 @@ pub enum Fault {
 }
 
 // Who refused.
-#[derive(Clone, Copy)]
+#[derive(Clone, Copy, PartialEq, Eq, Debug)]
 pub enum Layer {
     Reader,
     Mesh,

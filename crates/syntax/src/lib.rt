@@ -1,4 +1,6 @@
 // The words, names and faults of a scenario, and the order of its lines.
+#![tactic(auto)]
+
 mod fault;
 mod from_refusal;
 mod name;

@@ -5,7 +5,7 @@ ghost use Rattle.syntax.specs.Names.{named, choice_of};
 use text::field;
 
 // Which of two names a field holds.
-#[derive(Clone, Copy)]
+#[derive(Clone, Copy, PartialEq, Eq)]
 pub enum Choice {
     First,
     Second,

@@ -5,7 +5,7 @@ ghost use Rattle.syntax.specs.Words.{word_of, next_phase};
 use std::str::from_utf8;
 
 // The first word of a line.
-#[derive(Clone, Copy)]
+#[derive(Clone, Copy, PartialEq, Eq)]
 pub enum Word {
     Mesh,
     Rule,
@@ -38,7 +38,7 @@ pub fn read_word(text: &[u8]) -> Option<Word>
 }
 
 // Which line is due: the six lines of the head come once each and in this order, then any number of lines of the body.
-#[derive(Clone, Copy)]
+#[derive(Clone, Copy, PartialEq, Eq)]
 pub enum Phase {
     Mesh,
     Rule,

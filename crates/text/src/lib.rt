@@ -1,4 +1,6 @@
 // Text as bytes: fields between commas, whole numbers, and numbers written back.
+#![tactic(auto)]
+
 mod fields;
 mod numbers;
 mod print;

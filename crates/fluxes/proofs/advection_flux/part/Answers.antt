@@ -22,11 +22,11 @@ value c =
 fits : (c : After-wholes) → SFits w64 c.wholes.result
 fits c = rw (value c) (part_fits c.args.speed c.args.units c.requires c.ranges.units)
 
-pub overflow-cast-result : goal.overflow-cast-result
-overflow-cast-result c = let narrow = fits c in search rules
+pub overflow_cast-result : goal.overflow_cast-result
+overflow_cast-result c = let narrow = fits c in search rules
 
-pub invariant-of-result : goal.invariant-of-result
-invariant-of-result c = let narrow = fits c in search rules
+pub invariant_of-result : goal.invariant_of-result
+invariant_of-result c = let narrow = fits c in search rules
 
 pub returns : goal.returns
 returns c =

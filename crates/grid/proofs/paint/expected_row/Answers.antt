@@ -7,12 +7,12 @@ use Rattle.grid.specs.Hierarchies.{mark}
 use Rattle.grid.specs.Layouts.{hierarchy_of}
 use Rattle.grid.proofs.paint.expected_row.Goals as goal
 
-pub returns-in-default : goal.returns-in-default
-returns-in-default c =
+pub returns-in_default : goal.returns-in_default
+returns-in_default c =
     let o = c.args.layout.now in
     let y = c.args.y in
-    let row = c.paint-patches-in-default.new.row in
+    let row = c.paint_patches-in_default.new.row in
     let last : 2 ≡ c.args.level = omega arith in
     subst (λ (l : ℕ). (x : ℕ) → x < level_width o.size l → get_or row x 0 ≡ mark (hierarchy_of o) l x y) last
-    (λ x lx. c.paint-patches-in-default.ensures x
-    ∙ ap (λ v. cond (held (used o.second) (x / 2) (y / 2)) 1 v) (c.paint-in-default.ensures x ∙ grind (arith, nat_tests)))
+    (λ x lx. c.paint_patches-in_default.ensures x
+    ∙ ap (λ v. cond (held (used o.second) (x / 2) (y / 2)) 1 v) (c.paint-in_default.ensures x ∙ grind (arith, nat_tests)))

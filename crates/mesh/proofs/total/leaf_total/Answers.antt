@@ -11,7 +11,7 @@ use Rattle.model.specs.Fields.{fields_of}
 use Rattle.model.proofs.Totals.{sheet_total}
 use Rattle.mesh.proofs.Totals.{counted, leaf_counts, other_counts_not}
 use Rattle.mesh.proofs.total.leaf_total.Goals as goal
-use Rattle.mesh.proofs.total.leaf_total.Goals.{then-is-leaf, else-is-leaf}
+use Rattle.mesh.proofs.total.leaf_total.Goals.{then-is_leaf, else-is_leaf}
 
 pub bounds-marks-i : goal.bounds-marks-i
 bounds-marks-i g c = omega (arith, c.requires.whole, length_of c.args.layout.now c.args.marks.now c.requires.marked, c.loop-i-test.true)
@@ -30,15 +30,15 @@ loop-i-preserved g c =
     let inside : i < length all = omega arith in
     let v = c.index-contents-i.result in (
       omega arith,
-      elim c.if-is-leaf.branch [
-        | then-is-leaf w ↦
+      elim c.if-is_leaf.branch [
+        | then-is_leaf w ↦
             w.total-is ∙ (w.add-total.ensures ∙ (ap (λ t. G.◌⊕◌ t v) c.loop-i.invariant.1
             ∙ sum_more G laws all i v inside
             (c.index-contents-i.is ∙ (get_or_default contents i v G.zero c.loop-i-test.true
-            ∙ (sym (leaf_counts G o c.args.marks.now c.requires.marked contents i within (eqb-true _ 1 (sym c.is-leaf.ensures ∙ w.if-is-leaf.true))) ∙ get_or_default all i G.zero v inside)))))
-        | else-is-leaf w ↦
+            ∙ (sym (leaf_counts G o c.args.marks.now c.requires.marked contents i within (eqb-true _ 1 (sym c.is_leaf.ensures ∙ w.if-is_leaf.true))) ∙ get_or_default all i G.zero v inside)))))
+        | else-is_leaf w ↦
             w.total-is ∙ (c.loop-i.invariant.1 ∙ (sym (laws.neutral _)
-            ∙ sum_more G laws all i G.zero inside (sym (other_counts_not G o c.args.marks.now c.requires.marked contents i within (eqb-false _ 1 (sym c.is-leaf.ensures ∙ w.if-is-leaf.false))))))
+            ∙ sum_more G laws all i G.zero inside (sym (other_counts_not G o c.args.marks.now c.requires.marked contents i within (eqb-false _ 1 (sym c.is_leaf.ensures ∙ w.if-is_leaf.false))))))
       ],
     )
 

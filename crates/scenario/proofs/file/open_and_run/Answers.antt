@@ -9,6 +9,6 @@ pub returns : goal.returns
 returns g c =
     let G = g.V.Amount.addition in
     let K = g.V.Kind.form in
-    written_as c.run-lines.result (string_bytes c.args.out.now) (string_bytes c.run-lines.new.out) _ _
+    written_as c.run_lines.result (string_bytes c.args.out.now) (string_bytes c.run_lines.new.out) _ _
     (ap (λ o. after_opening G K o (lines c.args.text.now)) c.in-Ok.ensures)
-    c.run-lines.ensures
+    c.run_lines.ensures

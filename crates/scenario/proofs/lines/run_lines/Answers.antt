@@ -5,14 +5,14 @@ use Rattle.mesh.specs.Reads.{state_of}
 use Rattle.scenario.proofs.Runs.{goes_on, stops, no_more}
 use Rattle.scenario.proofs.lines.run_lines.Goals as goal
 
-pub returns-in-default-due : goal.returns-in-default-due
-returns-in-default-due g c =
+pub returns-in_default-2 : goal.returns-in_default-2
+returns-in_default-2 g c =
     let G = g.V.Amount.addition in
     let l = c.loop-line in
     let sheets = lists l.contents l.before l.corrections l.marks l.wanted in
     stops G g.V.Kind.form l.number l.phase (state_of G l.mesh sheets) sheets
-    l.rest.now c.in-Some.line.now c.in-Some.after.now c.in-Some.ensures (string_bytes l.out) c.in-ok-due.due c.in-default-due.is
-    (string_bytes c.run-line.new.out) _ _ c.in-ok-due.ensures
+    l.rest.now c.in-Some.line.now c.in-Some.after.now c.in-Some.ensures (string_bytes l.out) c.in_ok-next.field-0 c.in_default-2.is
+    (string_bytes c.run_line.new.out) _ _ c.in_ok-next.ensures
     ∙ l.invariant.1
 
 pub loop-line-smaller : goal.loop-line-smaller
@@ -25,8 +25,8 @@ loop-line-preserved g c =
     let sheets = lists l.contents l.before l.corrections l.marks l.wanted in (
       omega (arith, l.invariant.0, length_cut 10 l.rest.now c.in-Some.line.now c.in-Some.after.now c.in-Some.ensures),
       goes_on G g.V.Kind.form l.number l.phase (state_of G l.mesh sheets) sheets
-          l.rest.now c.in-Some.line.now c.in-Some.after.now c.in-Some.ensures (string_bytes l.out) c.in-ok-due.due c.in-Some-due.next c.in-Some-due.is
-          (string_bytes c.run-line.new.out) _ _ c.in-ok-due.ensures
+          l.rest.now c.in-Some.line.now c.in-Some.after.now c.in-Some.ensures (string_bytes l.out) c.in_ok-next.field-0 c.in-Some-2.next c.in-Some-2.is
+          (string_bytes c.run_line.new.out) _ _ c.in_ok-next.ensures
           ∙ l.invariant.1,
     )
 
@@ -36,5 +36,5 @@ returns g c =
     let l = c.loop-line in
     let sheets = lists l.contents l.before l.corrections l.marks l.wanted in
     no_more G g.V.Kind.form l.number l.phase (state_of G l.mesh sheets) sheets
-    l.rest.now (string_bytes l.out) c.in-default.ensures
+    l.rest.now (string_bytes l.out) c.in_default.ensures
     ∙ l.invariant.1

@@ -4,4 +4,4 @@ use Rattle.scenario.proofs.sheet.new_sheet.Goals as goal
 
 pub loop-preserved : goal.loop-preserved
 loop-preserved g c =
-    c.in-ok-push.ensures.items ∙ (ap (λ front. front ++ c.args.value ∷ []) c.loop.invariant ∙ replicate_more c.loop.counter c.args.value)
+    c.in_ok-push.ensures.items ∙ (ap (λ front. front ++ c.args.value ∷ []) c.loop.invariant ∙ replicate_more c.loop.counter c.args.value)

@@ -6,5 +6,5 @@ use Rattle.shallow_water.proofs.crossings.crossing.Goals as goal
 pub returns : goal.returns
 returns c = record {
   value = search rules;
-  range = eighth_within _ _ (record { sfits = c.floor-div.type-inv }) c.floor-div.ensures (omega (arith, ints));
+  range = eighth_within _ _ (record { sfits = c.floor_div.type_inv }) c.floor_div.ensures (omega (arith, ints));
 }

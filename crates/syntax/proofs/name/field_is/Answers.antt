@@ -8,6 +8,6 @@ use Rattle.std.proofs.lemmas.Bool.Decides.{Decides-eqb}
 pub returns-in-Some : goal.returns-in-Some
 returns-in-Some c =
     let text = c.in-Some.text.now in
-    let decides = slice_eq-Decides Decides-eqb text c.as-bytes.result.now c.eq.result c.eq.ensures in
-    let tested : c.eq.result ≡ bytes_eq text c.as-bytes.result.now = search (rules, bytes_eq-Decides) in
-    tested ∙ (ap (bytes_eq text) c.as-bytes.ensures.value ∙ ap (λ t. is_text t c.args.name.now) c.in-Some.ensures)
+    let decides = slice_eq-Decides Decides-eqb text c.as_bytes.result.now c.eq.result c.eq.ensures in
+    let tested : c.eq.result ≡ bytes_eq text c.as_bytes.result.now = search (rules, bytes_eq-Decides) in
+    tested ∙ (ap (bytes_eq text) c.as_bytes.ensures.value ∙ ap (λ t. is_text t c.args.name.now) c.in-Some.ensures)

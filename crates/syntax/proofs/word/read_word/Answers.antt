@@ -3,11 +3,11 @@ use lib.Utf8.{encode}
 use Rattle.syntax.proofs.Spellings.{word_none}
 use Rattle.syntax.proofs.word.read_word.Goals as goal
 
-pub returns-in-default : goal.returns-in-default
+pub returns-in_default : goal.returns-in_default
 unfolding encode
-returns-in-default c =
+returns-in_default c =
     let text = c.args.text.now in
-    let unlike : (w : List ℕ) → IsUtf8 w → text ≡ w → ⊥ = λ w utf8 e. c.in-default.ensures.cases.0 (subst IsUtf8 (sym e) utf8) in
+    let unlike : (w : List ℕ) → IsUtf8 w → text ≡ w → ⊥ = λ w utf8 e. c.in_default.ensures.cases.0 (subst IsUtf8 (sym e) utf8) in
     sym (word_none text
     (unlike (codes "mesh") (codes "mesh", (refl, refl)))
     (unlike (codes "rule") (codes "rule", (refl, refl)))
@@ -18,10 +18,10 @@ returns-in-default c =
     (unlike (codes "pour") (codes "pour", (refl, refl)))
     (unlike (codes "audit") (codes "audit", (refl, refl))))
 
-pub returns-in-default-spelling : goal.returns-in-default-spelling
-returns-in-default-spelling c =
+pub returns-in_default-spelling : goal.returns-in_default-spelling
+returns-in_default-spelling c =
     let s = c.in-Ok.ensures.cases.0 in
-    let other = c.in-default-spelling in
+    let other = c.in_default-spelling in
     sym (word_none c.args.text.now
     (λ e. other.not-mesh (s ∙ e)) (λ e. other.not-rule (s ∙ e)) (λ e. other.not-feed (s ∙ e)) (λ e. other.not-split (s ∙ e))
-    (λ e. other.not_flag (s ∙ e)) (λ e. other.not-cluster (s ∙ e)) (λ e. other.not-pour (s ∙ e)) (λ e. other.not-audit (s ∙ e)))
+    (λ e. other.not-flag (s ∙ e)) (λ e. other.not-cluster (s ∙ e)) (λ e. other.not-pour (s ∙ e)) (λ e. other.not-audit (s ∙ e)))

@@ -7,11 +7,11 @@ pub loop-y-init : goal.loop-y-init
 loop-y-init c = cells_begun c.args.cells.now c.args.patches.now
 
 pub loop-y-preserved : goal.loop-y-preserved
-loop-y-preserved c = row_further (cells_in c.args.cells.now) c.args.cells.now.height c.loop-y.y c.loop-y.invariant c.loop-y-test.true c.in-ok-count.ensures
+loop-y-preserved c = row_further (cells_in c.args.cells.now) c.args.cells.now.height c.loop-y.y c.loop-y.invariant c.loop-y-test.true c.in_ok-count.ensures
 
-pub returns-in-err-count : goal.returns-in-err-count
-returns-in-err-count c =
-    row_overfull (cells_in c.args.cells.now) c.args.cells.now.height c.loop-y.y c.loop-y.invariant c.from-residual.result _ c.from-residual.ensures.0 c.loop-y-test.true c.in-err-count.ensures
+pub returns-in_err-count : goal.returns-in_err-count
+returns-in_err-count c =
+    row_overfull (cells_in c.args.cells.now) c.args.cells.now.height c.loop-y.y c.loop-y.invariant c.from_residual.result _ c.from_residual.ensures.0 c.loop-y-test.true c.in_err-count.ensures
 
 pub returns : goal.returns
 returns c = rows_ended (cells_in c.args.cells.now) c.args.cells.now.height c.loop-y.y c.loop-y.invariant (omega arith)

@@ -14,12 +14,12 @@ pub returns : goal.returns
 returns c =
     let line = c.args.line.now in
     let v = c.in-Some.v in
-    let p = c.in-Some-read-part.p in
-    let q = c.in-Some-read-part-2.q in
+    let p = c.in-Some-read_part.p in
+    let q = c.in-Some-read_part-2.q in
     let vfits : SFits w32 v = search rules in
     let pfits : SFits w32 p = search rules in
     let qfits : SFits w32 q = search rules in
     ap Some (water_eq _ (water_of v p q) (kept v vfits) (kept p pfits) (kept q qfits))
     ∙ (ap (λ o. water_from o (Some p) (Some q)) c.in-Some.ensures
-    ∙ (ap (λ o. water_from (amount_field line 3) o (Some q)) c.in-Some-read-part.ensures
-    ∙ ap (λ o. water_from (amount_field line 3) (amount_field line 4) o) c.in-Some-read-part-2.ensures))
+    ∙ (ap (λ o. water_from (amount_field line 3) o (Some q)) c.in-Some-read_part.ensures
+    ∙ ap (λ o. water_from (amount_field line 3) (amount_field line 4) o) c.in-Some-read_part-2.ensures))
