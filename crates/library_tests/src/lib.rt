@@ -1,5 +1,6 @@
 // Tests of the libraries through their public functions.
 #![tactic(auto)]
+
 #[cfg(test)]
 mod amount_tests;
 #[cfg(test)]

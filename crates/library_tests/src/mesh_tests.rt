@@ -1,6 +1,6 @@
-use amount::Volume;
+use amount::{Amount, Volume, Water};
 use grid::Size;
-use mesh::Mesh;
+use mesh::{Audit, Mesh};
 use sheets::{Refusal, Sheets};
 use std::alloc::Global;
 use std::process::Abort;
@@ -113,6 +113,83 @@ fn pours_stay_inside(rt: HostRuntime) -> Result<(), Fail> {
     assert_eq!(rt; poured(1, 0)?, (3, None));
     assert_eq!(rt; poured(2, 0)?, (0, Some(Refusal::Outside)));
     assert_eq!(rt; poured(0, 1)?, (0, Some(Refusal::Outside)));
+    Ok(())
+}
+
+// What the second base cell of a small mesh holds, and what the audit reports, after an amount was poured there twice.
+// In between a pour east of the grid and one north of it are refused.
+fn poured_twice<V: Amount + Clone>(
+    rt: &impl Abort,
+    heap: Global,
+    amount: V,
+) -> Result<(V, Audit<V>), Fail> {
+    let mut contents = vec![in heap; amount; 10]?;
+    let mut before = vec![in heap; amount; 10]?;
+    let mut corrections = vec![in heap; amount; 10]?;
+    let mut marks = vec![in heap; 9; 10]?;
+    let mut wanted = vec![in heap; 9; 10]?;
+    let sheets = Sheets {
+        contents: &mut contents,
+        before: &mut before,
+        corrections: &mut corrections,
+        marks: &mut marks,
+        wanted: &mut wanted,
+    };
+    let Ok(mut mesh) = Mesh::open(SMALL, sheets) else {
+        return Err(Fail::new("2 by 1 opens"));
+    };
+    for (x, y, refusal) in [
+        (1, 0, None),
+        (2, 0, Some(Refusal::Outside)),
+        (0, 1, Some(Refusal::Outside)),
+        (1, 0, None),
+    ] {
+        let sheets = Sheets {
+            contents: &mut contents,
+            before: &mut before,
+            corrections: &mut corrections,
+            marks: &mut marks,
+            wanted: &mut wanted,
+        };
+        assert_eq!(rt; mesh.pour(sheets, x, y, amount).err(), refusal);
+    }
+    let sheets = Sheets {
+        contents: &mut contents,
+        before: &mut before,
+        corrections: &mut corrections,
+        marks: &mut marks,
+        wanted: &mut wanted,
+    };
+    let Ok(audit) = mesh.audit(&sheets) else {
+        return Err(Fail::new("the sheets are whole and marked"));
+    };
+    assert!(rt; contents.len() == 10);
+    Ok((contents[1], audit))
+}
+
+#[test]
+fn volumes_are_poured(rt: HostRuntime) -> Result<(), Fail> {
+    let (held, audit) = poured_twice(&rt, rt.alloc(), Volume { units: -3 })?;
+    assert_eq!(rt; held.units, -6);
+    assert_eq!(rt; audit.total.units, -6);
+    assert_eq!(rt; audit.poured.units, -6);
+    assert_eq!(rt; audit.inward.units, 0);
+    Ok(())
+}
+
+#[test]
+fn waters_are_poured(rt: HostRuntime) -> Result<(), Fail> {
+    let (held, audit) = poured_twice(&rt, rt.alloc(), Water { v: 4, p: -1, q: 5 })?;
+    let Audit {
+        steps,
+        total,
+        poured,
+        inward: _,
+    } = audit;
+    assert_eq!(rt; (held.v, held.p, held.q), (8, -2, 10));
+    assert_eq!(rt; (total.v, total.p, total.q), (8, -2, 10));
+    assert_eq!(rt; (poured.v, poured.p, poured.q), (8, -2, 10));
+    assert_eq!(rt; steps, 0);
     Ok(())
 }
 

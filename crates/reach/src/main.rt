@@ -1,5 +1,6 @@
 // Reads a scenario from standard input and prints what its audits say and which lines are refused.
 #![tactic(auto)]
+
 ghost use Rattle.std.specs.Prelude.{◌≤◌, IfOk};
 
 use std::io;

@@ -1,5 +1,6 @@
 // Runs stored scenarios and compares what is printed with what must be. Names the ones that differ, and counts.
 #![tactic(auto)]
+
 use std::fs;
 
 // Whether the scenario of this name prints what it must.
