@@ -2,7 +2,7 @@
 use Rattle.std.specs.Prelude.{◌≡◌}
 use Rattle.std.specs.Int.{w64}
 use Rattle.amount.specs.Additions.{Sums}
-use Rattle.amount.specs.Volumes.{volume_of, plus, minus, volumes}
+use Rattle.amount.specs.Volumes.{plus, minus, volumes}
 use Rattle.amount.specs.Wraps.{wraps_assoc, wraps_comm, wraps_neutral, wraps_inverse, fits_path}
 use Rattle.amount.specs.declared.volume.Volume.{Volume}
 

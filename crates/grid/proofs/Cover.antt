@@ -1,17 +1,17 @@
 -- The patches that hold a cell, and what the invariant of a layout says of every level. Assumes nothing.
-use Rattle.std.proofs.Common.{◌≡◌, ℕ, zero, suc, ◌+◌, ◌*◌, ◌/◌, ◌^◌, ◌<◌, ◌≤◌, Bool, true, false, cond, ◌&&◌, ◌||◌, ◌⊎◌, List, [], length, get_or, take, Decides, sym, refl, ap, ◌∙◌, subst, ⊎_elim, arith}
+use Rattle.std.proofs.Common.{◌≡◌, ℕ, zero, suc, ◌+◌, ◌<◌, ◌≤◌, true, List, length, get_or, Decides, sym, refl, ap, ◌∙◌, ⊎_elim, arith}
 use Rattle.std.specs.List.{HoldsAt}
 use Rattle.std.proofs.lemmas.Bool.Decides.{Decides-by_or}
-use Rattle.std.proofs.lemmas.Bool.{and_parts, and_from, leb-true, ltb-true, le-leb, lt-ltb, cond-true, cond-false, true≢false, both_ways, cases_Bool, cases_lt}
-use Rattle.std.proofs.lemmas.List.{get_or-take, length-take-le, get_or_default}
+use Rattle.std.proofs.lemmas.Bool.{and_parts, and_from, leb-true, ltb-true, lt-ltb, true≢false, cases_lt}
+use Rattle.std.proofs.lemmas.List.{get_or-take, length-take-le}
 use Rattle.grid.specs.declared.patch.Patch.{Patch}
 use Rattle.grid.specs.declared.table.PatchTable.{PatchTable}
 use Rattle.grid.specs.declared.layout.Layout.{Layout}
-use Rattle.grid.specs.Boxes.{no_patch, holds, held, Near, Beside}
+use Rattle.grid.specs.Boxes.{no_patch, holds, held}
 use Rattle.grid.specs.Tables.{used}
 use Rattle.grid.specs.Sizes.{level_width, level_height}
-use Rattle.grid.specs.Hierarchies.{live, mark}
-use Rattle.grid.specs.Layouts.{patches_of, hierarchy_of}
+use Rattle.grid.specs.Hierarchies.{live}
+use Rattle.grid.specs.Layouts.{hierarchy_of}
 
 pub holds_parts : (p : Patch) (x y : ℕ) → holds p x y ≡ true → (p.x0 ≤ x) × (x < p.x1) × (p.y0 ≤ y) × (y < p.y1)
 holds_parts p x y e =

@@ -1,9 +1,9 @@
 -- Which cells are in the mesh, and that each index is that of one cell only. Assumes nothing.
-use Rattle.std.proofs.Common.{◌≡◌, ℕ, ◌+◌, ◌*◌, ◌/◌, ◌%◌, ◌<◌, ◌≤◌, Bool, true, false, cond, ◌&&◌, ◌⊎◌, Some, None, sym, refl, ap, ◌∙◌, subst, inl, inr, ⊎_elim, arith}
+use Rattle.std.proofs.Common.{◌≡◌, ℕ, ◌+◌, ◌*◌, ◌/◌, ◌%◌, ◌<◌, Bool, true, false, cond, Some, None, sym, refl, ap, ◌∙◌, subst, ⊎_elim, arith}
 use Rattle.std.proofs.lemmas.Nat.{div-mul-add, mod-mul-add}
 use Rattle.std.proofs.lemmas.Bool.{and_parts, and_from, ltb-true, lt-ltb, cases_lt, cases_eq}
 use Rattle.grid.specs.declared.size.Size.{Size}
-use Rattle.grid.specs.Sizes.{level_width, level_height, level_start, in_mesh, index}
+use Rattle.grid.specs.Sizes.{level_width, level_height, in_mesh, index}
 use Rattle.grid.proofs.Sheets.{row_ends_in, starts_mono}
 
 module _ (s : Size) where

@@ -1,13 +1,12 @@
 -- Where the cells of a mesh stand in a sheet, and the sheet of what is known of each cell. Assumes nothing.
-use Rattle.std.proofs.Common.{◌≡◌, ℕ, zero, suc, ◌+◌, ◌*◌, ◌/◌, ◌%◌, ◌^◌, ◌<◌, ◌≤◌, true, List, map, length, get_or, sym, refl, ap, ◌∙◌, subst, div-lt_iff_lt-mul, pow-suc, add-one, arith}
-use Rattle.std.specs.List.{range_with_len}
+use Rattle.std.proofs.Common.{◌≡◌, ℕ, zero, suc, ◌+◌, ◌*◌, ◌/◌, ◌%◌, ◌^◌, ◌<◌, ◌≤◌, true, List, length, get_or, sym, refl, ap, ◌∙◌, subst, div-lt_iff_lt-mul, pow-suc, add-one, arith}
 use Rattle.std.proofs.lemmas.Nat.{mul-le, mod_below, div-add-mod'}
 use Rattle.std.proofs.lemmas.Bool.{and_from, lt-ltb}
 use Rattle.std.proofs.lemmas.List.FromFn.{length-map-range_with_len, get_or-map-range_with_len}
 use Rattle.std.proofs.lemmas.List.{ext_get_or}
 use Rattle.grid.specs.declared.size.Size.{Size}
 use Rattle.grid.specs.Sizes.{level_width, level_height, cells_below, in_mesh, level_start, sheet_length, index, row_sheet, level_sheet, sheet}
-use Rattle.grid.proofs.Joins.{length-joined, joined-below, joined_ends, getD_joined, Found, found}
+use Rattle.grid.proofs.Joins.{length-joined, joined-below, joined_ends, getD_joined, found}
 
 powers : (l : ℕ) → 3 * cells_below l + 1 ≡ 2 ^ l * 2 ^ l
 powers zero = refl

@@ -1,5 +1,5 @@
 -- Neighbours, rings, parents and children of cells. Assumes nothing.
-use Rattle.std.specs.Prelude.{ℕ, zero, suc, ◌+◌, ◌-◌, ◌*◌, ◌/◌, Bool, cond, not, ◌&&◌, Some, None, Option, ◌==◌, nat_le, nat_lt}
+use Rattle.std.specs.Prelude.{ℕ, ◌+◌, ◌-◌, ◌*◌, ◌/◌, Bool, cond, not, ◌&&◌, Some, None, Option, ◌==◌, nat_le, nat_lt}
 use Rattle.grid.specs.declared.place.Place.{Place}
 use Rattle.grid.specs.declared.side.Side.{Side}
 use Rattle.grid.specs.declared.side.Side.TheVariants.{West, East, South, North}

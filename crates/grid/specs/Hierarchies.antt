@@ -1,5 +1,5 @@
 -- Live and covered cells of a mesh, and the mark of each. Assumes nothing.
-use Rattle.std.specs.Prelude.{ℕ, zero, suc, ◌/◌, Bool, cond, not, ◌&&◌, List, [], nat_lt}
+use Rattle.std.specs.Prelude.{ℕ, zero, suc, ◌/◌, Bool, cond, not, ◌&&◌, List, nat_lt}
 use Rattle.grid.specs.declared.patch.Patch.{Patch}
 use Rattle.grid.specs.declared.size.Size.{Size}
 use Rattle.grid.specs.Boxes.{held}

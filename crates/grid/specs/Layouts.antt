@@ -1,7 +1,7 @@
 -- A layout as the rules read it, and the sheet of its marks. Assumes nothing.
 use Rattle.std.specs.Prelude.{◌≡◌, ℕ, zero, suc, ◌<◌, List, [], slice_index}
 use Rattle.grid.specs.declared.layout.Layout.{Layout}
-use Rattle.grid.specs.Sizes.{level_width, level_height, sheet_length, index, sheet}
+use Rattle.grid.specs.Sizes.{level_width, level_height, index, sheet}
 use Rattle.grid.specs.Tables.{used}
 use Rattle.grid.specs.Hierarchies.{Patches, Hierarchy, laid, mark}
 

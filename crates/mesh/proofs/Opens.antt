@@ -1,18 +1,17 @@
 -- A newly opened mesh and its sheets. Assumes nothing.
-use Rattle.std.proofs.Common.{◌≡◌, ℕ, zero, suc, ◌+◌, ◌-◌, ◌*◌, ◌^◌, ◌<◌, ◌≤◌, Bool, true, false, cond, eqb, ltb, List, [], length, get_or, replicate, Ok, sym, refl, ap, ◌∙◌, ⊎_elim, arith}
+use Rattle.std.proofs.Common.{◌≡◌, ℕ, zero, suc, ◌+◌, ◌*◌, ◌<◌, ◌≤◌, true, cond, eqb, ltb, List, [], length, get_or, replicate, Ok, sym, refl, ap, ◌∙◌, ⊎_elim, arith}
 use Rattle.std.proofs.lemmas.Bool.{cond-true, cond-false, lt-ltb, le-ltb, eq-eqb, ne_eqb, cases_eq}
 use Rattle.amount.specs.Additions.{Addition}
 use Rattle.grid.specs.declared.layout.Layout.{Layout}
-use Rattle.grid.specs.declared.patch.Patch.{Patch}
 use Rattle.grid.specs.declared.size.Size.{Size}
 use Rattle.grid.specs.Sizes.{in_range, level_start, sheet_length, index, sheet}
 use Rattle.grid.specs.Tables.{used}
 use Rattle.grid.specs.Layouts.{patches_of}
 use Rattle.grid.proofs.Sheets.{is_sheet, starts_mono, row_ends_in, level_fits}
 use Rattle.model.specs.Fields.{fields_of}
-use Rattle.model.specs.States.{State, opened}
+use Rattle.model.specs.States.{opened}
 use Rattle.model.specs.Refusals.{Sheets, whole}
-use Rattle.model.specs.Calls.{Opening, unless_closed, opened_sheets, open_call}
+use Rattle.model.specs.Calls.{unless_closed, opened_sheets, open_call}
 use Rattle.model.proofs.Sheets.{fields_of_zeros}
 use Rattle.sheets.specs.Lists.{lists}
 use Rattle.mesh.specs.Reads.{state_of}

@@ -1,10 +1,9 @@
 -- The contents of live uncovered cells, by their marks. Assumes nothing.
-use Rattle.std.proofs.Common.{◌≡◌, ℕ, ◌<◌, Bool, true, false, cond, not, ◌&&◌, List, length, get_or, sym, refl, ap, ◌∙◌, ⊎_elim, arith}
-use Rattle.std.proofs.lemmas.Bool.{cond-true, cond-false, cases_Bool}
+use Rattle.std.proofs.Common.{◌≡◌, ℕ, ◌<◌, Bool, true, false, cond, not, ◌&&◌, List, get_or, sym, refl, ap, ◌∙◌, arith}
 use Rattle.amount.specs.Additions.{Addition}
 use Rattle.grid.specs.declared.layout.Layout.{Layout}
-use Rattle.grid.specs.Sizes.{sheet_length, index, sheet}
-use Rattle.grid.specs.Hierarchies.{Hierarchy, live, leaf, mark}
+use Rattle.grid.specs.Sizes.{sheet_length, sheet}
+use Rattle.grid.specs.Hierarchies.{live, leaf, mark}
 use Rattle.grid.specs.Layouts.{hierarchy_of, marks_of}
 use Rattle.grid.proofs.Sheets.{sheet_at, CellAt, cell_at}
 use Rattle.grid.proofs.Indices.{in_mesh_from}

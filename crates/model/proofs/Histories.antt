@@ -18,7 +18,7 @@ use Rattle.model.specs.Calls.{Outcome, unless_refused, with_contents}
 use Rattle.model.specs.Groups.{Amounts, Group}
 use Rattle.model.specs.Nesting.{Nested, WellLaid}
 use Rattle.model.specs.Interfaces.{Flux, Children, child, Splits}
-use Rattle.model.specs.Step.{Restricted, inward}
+use Rattle.model.specs.Step.{Restricted}
 use Rattle.model.specs.Wanted.{Flagging, Clustering, Clustered, Clusters, properly_nested, wanted}
 use Rattle.model.specs.Regrid.{relaid, regridded, regrid}
 use Rattle.model.specs.Evolution.{step_refusal, regrid_refusal, boxes, step_inward, stepped, repatched, regrid_done, too_many}

@@ -1,10 +1,10 @@
 -- A level step on a level without live cells changes nothing and has no inward amount.
-use Rattle.std.proofs.Common.{◌≡◌, ℕ, zero, suc, pred, ◌/◌, Bool, true, false, not, ◌&&◌, ◌⊎◌, sym, refl, ap, ◌∙◌, ap₂, ⊎_elim, true≢false}
+use Rattle.std.proofs.Common.{◌≡◌, ℕ, zero, suc, pred, ◌/◌, Bool, true, false, not, ◌&&◌, refl, ap, ◌∙◌, ap₂, ⊎_elim, true≢false}
 use Rattle.std.proofs.lemmas.Bool.{cases_eq}
 use Rattle.grid.specs.Sizes.{level_width, level_height}
 use Rattle.grid.specs.Hierarchies.{Hierarchy, live, leaf}
-use Rattle.model.specs.Fields.{Field, Fields, write}
-use Rattle.model.specs.Sums.{gate, sum}
+use Rattle.model.specs.Fields.{Field, Fields}
+use Rattle.model.specs.Sums.{gate}
 use Rattle.model.specs.Groups.{Amounts, Group}
 use Rattle.model.specs.Nesting.{Nested}
 use Rattle.model.specs.Interfaces.{Flux, Children}

@@ -1,5 +1,5 @@
 -- One level: what its uncovered cells gain.
-use Rattle.std.proofs.Common.{◌≡◌, ℕ, zero, suc, Bool, true, false, cond, not, ◌&&◌, sym, refl, ap, ◌∙◌, ap₂}
+use Rattle.std.proofs.Common.{◌≡◌, ℕ, suc, Bool, true, false, cond, not, ◌&&◌, sym, refl, ap, ◌∙◌, ap₂}
 use Rattle.grid.specs.Sizes.{level_width, level_height}
 use Rattle.grid.specs.Hierarchies.{Hierarchy, live, leaf}
 use Rattle.model.specs.Fields.{Field}

@@ -1,5 +1,5 @@
 -- Sheets and the fields that they are read as. Assumes nothing.
-use Rattle.std.proofs.Common.{◌≡◌, ℕ, ◌<◌, Bool, true, false, cond, ◌&&◌, eqb, ◌≢◌, ◌⊎◌, List, length, get_or, set, replicate, sym, refl, ap, ◌∙◌, ap₂, inl, inr, ⊎_elim, arith}
+use Rattle.std.proofs.Common.{◌≡◌, ℕ, ◌<◌, true, false, ◌&&◌, eqb, ◌⊎◌, List, length, get_or, set, replicate, sym, refl, ap, ◌∙◌, inl, inr, ⊎_elim, arith}
 use Rattle.std.proofs.lemmas.List.{get_or-set_same, get_or-set_other, get_or-replicate}
 use Rattle.std.proofs.lemmas.Bool.{and_from, and_left, and_right, eq-eqb, ne_eqb, cond-true, cond-false, cases_Bool, cases_eq}
 use Rattle.amount.specs.Additions.{Addition}
@@ -7,7 +7,7 @@ use Rattle.grid.specs.declared.size.Size.{Size}
 use Rattle.grid.specs.Sizes.{in_mesh, sheet_length, index, sheet}
 use Rattle.grid.proofs.Sheets.{is_sheet, index_below}
 use Rattle.grid.proofs.Indices.{in_mesh_parts, in_mesh_from, index_once}
-use Rattle.model.specs.Fields.{Field, Fields, write, fields_of}
+use Rattle.model.specs.Fields.{Fields, write, fields_of}
 use Rattle.model.specs.Pour.{added}
 
 -- fields that are equal at each cell are equal

@@ -1,8 +1,8 @@
 -- Sums over ranges. Assumes nothing.
-use Rattle.std.proofs.Common.{◌≡◌, ℕ, zero, suc, ◌+◌, ◌<◌, Bool, true, false, sym, refl, ap, ◌∙◌, ap₂, lt-suc_self}
+use Rattle.std.proofs.Common.{◌≡◌, ℕ, zero, suc, ◌<◌, sym, refl, ap, ◌∙◌, ap₂, lt-suc_self}
 use native.Mathlib.Nat.{le_step}
 use Rattle.amount.specs.Additions.{Addition, Sums}
-use Rattle.model.specs.Sums.{gate, sum, area}
+use Rattle.model.specs.Sums.{sum}
 
 module _ {A : Type 0} (G : Addition A) (laws : Sums G) where
   open G use {◌⊕◌}

@@ -1,5 +1,5 @@
 -- Amount kinds as a scenario writes them. Assumes nothing.
-use Rattle.std.specs.Prelude.{ℕ, Bool, List, ◌++◌, length, ℤ, pos, negsuc, Some, None, Ok, Err, codes, Option, Result, ◌==◌}
+use Rattle.std.specs.Prelude.{ℕ, Bool, List, ◌++◌, length, ℤ, pos, negsuc, Some, None, Ok, codes, Option, Result, ◌==◌}
 use Rattle.std.specs.Option.{option_map}
 use Rattle.amount.specs.declared.volume.Volume.{Volume}
 use Rattle.amount.specs.declared.water.Water.{Water}

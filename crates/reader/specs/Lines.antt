@@ -1,13 +1,10 @@
 -- What each line of a scenario says. Of a line, an unknown first word comes first, then a word out of order, then a wrong number
 -- of fields; then the first bad field from the left decides. Assumes nothing.
-use Rattle.std.specs.Prelude.{ℕ, cond, List, pos, Some, None, Ok, Err, codes, Option, Result}
-use Rattle.std.specs.Int.Signed.{mag}
-use Rattle.std.specs.Option.{option_map}
+use Rattle.std.specs.Prelude.{ℕ, List, Some, None, Ok, Err, codes, Option, Result}
 use Rattle.std.specs.List.{slice_get}
 use Rattle.grid.specs.declared.size.Size.{Size}
 use Rattle.grid.specs.Sizes.{size_of}
 use Rattle.text.specs.Text.{fields}
-use Rattle.text.specs.Numbers.{field_within}
 use Rattle.reader.specs.declared.command.Command.{Command}
 use Rattle.reader.specs.declared.command.Command.TheVariants as command
 use Rattle.syntax.specs.declared.fault.Fault.{Fault}

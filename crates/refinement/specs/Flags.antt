@@ -1,6 +1,6 @@
 -- Flaggings: which cells are to be refined. Assumes nothing.
 use Rattle.std.specs.Prelude.{ℕ, ◌*◌, ◌^◌, Bool, ◌||◌, ℤ, ◌-ℤ◌, nat_le, nat_lt, unsigned_abs}
-use Rattle.model.specs.Wanted.{Around, Flagging}
+use Rattle.model.specs.Wanted.{Flagging}
 
 -- two volumes, as whole numbers, differ by more than a threshold
 abbrev pub steep_between : ℕ → (a b : ℤ) → Bool

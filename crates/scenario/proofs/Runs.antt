@@ -5,7 +5,7 @@ use Rattle.amount.specs.Additions.{Addition}
 use Rattle.grid.specs.declared.size.Size.{Size}
 use Rattle.model.specs.States.{State}
 use Rattle.model.specs.Refusals.{Sheets}
-use Rattle.text.specs.Text.{cut_at, pieces}
+use Rattle.text.specs.Text.{cut_at}
 use Rattle.text.proofs.Cuts.{by_cut, pieces_by_cut, pieces_none, pieces_some}
 use Rattle.syntax.specs.declared.fault.Fault.{Fault}
 use Rattle.reader.specs.declared.header.KindName.{KindName}

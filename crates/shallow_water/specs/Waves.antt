@@ -1,5 +1,5 @@
 -- Shallow water: volume and momentum carried by their own motion, with the pressure of the depth. Assumes nothing.
-use Rattle.std.specs.Prelude.{◌≡◌, ℕ, ◌^◌, Bool, cond, ℤ, pos, negsuc, ◌+ℤ◌, ◌-ℤ◌, ◌*ℤ◌, neg_ℤ, ◌==◌, unsigned_abs}
+use Rattle.std.specs.Prelude.{◌≡◌, ℕ, ◌^◌, Bool, cond, ℤ, pos, ◌+ℤ◌, ◌-ℤ◌, ◌*ℤ◌, neg_ℤ, ◌==◌, unsigned_abs}
 use Rattle.amount.specs.declared.water.Water.{Water}
 use Rattle.amount.specs.Waters.{water_of, minus}
 use Rattle.model.specs.declared.direction.Direction.{Direction}

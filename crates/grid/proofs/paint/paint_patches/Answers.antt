@@ -1,6 +1,6 @@
-use Rattle.std.proofs.Common.{◌≡◌, ℕ, ◌*◌, ◌/◌, ◌<◌, ◌≤◌, cond, List, length, get_or, take, sym, ap, ◌∙◌, subst, arith, rules}
+use Rattle.std.proofs.Common.{◌*◌, ◌<◌, ◌≤◌, length, get_or, ap, ◌∙◌, arith}
 use Rattle.std.proofs.lemmas.Nat.{mul-le}
-use Rattle.grid.specs.Boxes.{no_patch, held}
+use Rattle.grid.specs.Boxes.{no_patch}
 use Rattle.grid.proofs.Paints.{patch_painted, patch_passed}
 use Rattle.grid.proofs.paint.paint_patches.Goals as goal
 use Rattle.grid.proofs.paint.paint_patches.Goals.{then-patch-y+then-y-patch, else-patch-y}

@@ -1,6 +1,6 @@
-use Rattle.std.proofs.Common.{◌≡◌, ◌-◌, ◌<◌, length, sym, ◌∙◌, arith}
+use Rattle.std.proofs.Common.{◌≡◌, ◌-◌, sym, ◌∙◌, arith}
 use Rattle.std.proofs.lemmas.Bool.{cond-true, eqb-true, eqb-false}
-use Rattle.grid.specs.Sizes.{sheet_length, index}
+use Rattle.grid.specs.Sizes.{index}
 use Rattle.grid.specs.Layouts.{hierarchy_of}
 use Rattle.grid.proofs.Sheets.{index_below}
 use Rattle.grid.proofs.Indices.{in_mesh_parts, index_given}

@@ -1,4 +1,4 @@
-use Rattle.std.proofs.Common.{sym, arith, ltb-false, ltb-true}
+use Rattle.std.proofs.Common.{arith}
 use Rattle.scenario.proofs.Runs.{ended_by, ended_none}
 use Rattle.scenario.proofs.file.is_ended.Goals as goal
 

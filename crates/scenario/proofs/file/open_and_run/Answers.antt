@@ -1,6 +1,4 @@
-use Rattle.std.proofs.Common.{◌≡◌, string_bytes, ap, ◌∙◌}
-use Rattle.sheets.specs.Lists.{lists}
-use Rattle.mesh.specs.Reads.{opening}
+use Rattle.std.proofs.Common.{string_bytes, ap}
 use Rattle.reader.proofs.Writings.{written_as}
 use Rattle.scenario.specs.Program.{lines, after_opening}
 use Rattle.scenario.proofs.file.open_and_run.Goals as goal

@@ -1,4 +1,4 @@
-use Rattle.std.proofs.Common.{string_bytes, ap, arith, rules}
+use Rattle.std.proofs.Common.{string_bytes, ap, arith}
 use Rattle.text.proofs.Cuts.{length_cut}
 use Rattle.reader.proofs.Writings.{written_as}
 use Rattle.scenario.specs.Program.{lines, run_file}

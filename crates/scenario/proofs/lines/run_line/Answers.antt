@@ -1,4 +1,4 @@
-use Rattle.std.proofs.Common.{◌≡◌, ◌++◌, string_bytes, refl, ap, ◌∙◌}
+use Rattle.std.proofs.Common.{◌++◌, string_bytes, ap, ◌∙◌}
 use Rattle.sheets.specs.Lists.{lent}
 use Rattle.mesh.specs.Reads.{state_of}
 use Rattle.scenario.specs.Printed.{printed}

@@ -1,4 +1,4 @@
-use Rattle.std.proofs.Common.{◌≡◌, string_bytes, ◌∙◌, arith}
+use Rattle.std.proofs.Common.{string_bytes, ◌∙◌, arith}
 use Rattle.text.proofs.Cuts.{length_cut}
 use Rattle.sheets.specs.Lists.{lists}
 use Rattle.mesh.specs.Reads.{state_of}

@@ -1,4 +1,4 @@
-use Rattle.std.proofs.Common.{◌≡◌, [], ◌∷◌, ◌++◌, pos, string_bytes, codes}
+use Rattle.std.proofs.Common.{[], ◌∷◌, pos, string_bytes, codes}
 use Rattle.text.specs.Printed.{number_field}
 use Rattle.reader.proofs.Writings.{written_after, pushed}
 use Rattle.scenario.proofs.print.write_audit.Goals as goal

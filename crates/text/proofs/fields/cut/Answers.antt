@@ -1,4 +1,4 @@
-use Rattle.std.proofs.Common.{◌≡◌, ℕ, ◌+◌, List, take, Some, Option, ap, ◌∙◌}
+use Rattle.std.proofs.Common.{ℕ, ◌+◌, List, take, Some, Option, ap, ◌∙◌}
 use Rattle.std.proofs.lemmas.List.{take_rest}
 use Rattle.text.proofs.fields.cut.Goals as goal
 

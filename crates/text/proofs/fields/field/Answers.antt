@@ -1,4 +1,4 @@
-use Rattle.std.proofs.Common.{◌≡◌, sym, ◌∙◌}
+use Rattle.std.proofs.Common.{sym, ◌∙◌}
 use Rattle.text.proofs.Cuts.{nth_past_cut, nth_past_last, nth_at_cut, nth_at_last}
 use Rattle.text.proofs.fields.field.Goals as goal
 

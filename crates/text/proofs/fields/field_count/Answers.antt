@@ -1,4 +1,4 @@
-use Rattle.std.proofs.Common.{◌≡◌, ◌+◌, length, get_or, drop, arith}
+use Rattle.std.proofs.Common.{◌+◌, length, get_or, drop, arith}
 use Rattle.std.proofs.lemmas.List.{at_drop_more, at_drop_all}
 use Rattle.text.specs.Text.{fields}
 use Rattle.text.proofs.Cuts.{length_pieces_more, length_pieces_same}

@@ -1,4 +1,4 @@
-use Rattle.std.proofs.Common.{◌≡◌, sym, arith}
+use Rattle.std.proofs.Common.{sym, arith}
 use Rattle.text.proofs.Cuts.{cut_here, cut_nowhere}
 use Rattle.text.proofs.fields.position.Goals as goal
 

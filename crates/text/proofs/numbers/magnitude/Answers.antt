@@ -1,6 +1,5 @@
-use Rattle.std.proofs.Common.{◌≡◌, ◌+◌, ◌*◌, ◌≤◌, length, get_or, sym, ap, ◌∙◌, arith}
+use Rattle.std.proofs.Common.{◌≤◌, length, sym, ◌∙◌, arith}
 use Rattle.std.proofs.lemmas.Bool.{eqb-false}
-use Rattle.text.specs.Numbers.{read_on}
 use Rattle.text.proofs.Readings.{magnitude_stops, digits_more, read_on_more, magnitude_ends, below_ten_times, below_ten_digits}
 use Rattle.text.proofs.numbers.magnitude.Goals as goal
 

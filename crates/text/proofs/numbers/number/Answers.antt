@@ -1,4 +1,4 @@
-use Rattle.std.proofs.Common.{◌≡◌, Some, sym, ap, ◌∙◌, arith, rules}
+use Rattle.std.proofs.Common.{Some, ap, ◌∙◌, arith, rules}
 use Rattle.std.proofs.lemmas.Int.{ints}
 use Rattle.text.proofs.Readings.{number_minus}
 use Rattle.text.proofs.numbers.number.Goals as goal

@@ -1,4 +1,4 @@
-use Rattle.std.proofs.Common.{◌≡◌, ap, ◌∙◌, rules}
+use Rattle.std.proofs.Common.{ap, ◌∙◌, rules}
 use Rattle.std.proofs.lemmas.Int.{wraps}
 use Rattle.amount.specs.Volumes.{plus, minus}
 use Rattle.amount.specs.VolumesLemmas.{volume_eq, volume_inverse}

@@ -1,4 +1,4 @@
-use Rattle.std.proofs.Common.{◌≡◌, ap, ◌∙◌, rules}
+use Rattle.std.proofs.Common.{ap, ◌∙◌, rules}
 use Rattle.std.proofs.lemmas.Int.{wraps}
 use Rattle.amount.specs.Waters.{plus, minus}
 use Rattle.amount.specs.WatersLemmas.{water_eq, water_inverse}

@@ -1,4 +1,4 @@
-use Rattle.std.proofs.Common.{◌≡◌, ◌-◌, ◌*◌, ◌<◌, true, sym, ◌∙◌, subst, arith}
+use Rattle.std.proofs.Common.{◌≡◌, ◌-◌, true, sym, ◌∙◌, subst, arith}
 use Rattle.grid.specs.declared.place.Place.{Place}
 use Rattle.grid.specs.Sizes.{in_mesh, index}
 use Rattle.grid.proofs.Sheets.{level_ends, offset_cell}

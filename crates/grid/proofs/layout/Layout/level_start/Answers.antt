@@ -1,4 +1,4 @@
-use Rattle.std.proofs.Common.{◌*◌, ap, arith}
+use Rattle.std.proofs.Common.{◌*◌, ap}
 use Rattle.std.proofs.lemmas.Nat.{mul-le}
 use Rattle.grid.proofs.layout.Layout.level_start.Goals as goal
 

@@ -1,4 +1,4 @@
-use Rattle.std.proofs.Common.{◌≡◌, ◌+◌, ◌*◌, length, ap, ap₂, arith}
+use Rattle.std.proofs.Common.{◌≡◌, ◌+◌, ◌*◌, length, ap, ap₂}
 use Rattle.grid.specs.Sizes.{level_start, level_width}
 use Rattle.grid.proofs.Rows.{row_ends, row_decides}
 use Rattle.grid.proofs.layout.Layout.row_agrees.Goals as goal

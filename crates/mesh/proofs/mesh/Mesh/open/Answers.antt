@@ -1,4 +1,4 @@
-use Rattle.std.proofs.Common.{◌≡◌, true, cond, eqb, replicate, sym, refl, ap, ◌∙◌}
+use Rattle.std.proofs.Common.{◌≡◌, true, cond, eqb, replicate, sym, ap, ◌∙◌}
 use Rattle.grid.specs.Sizes.{sheet_length, sheet}
 use Rattle.model.specs.Refusals.{all_long}
 use Rattle.sheets.specs.Lists.{lent}

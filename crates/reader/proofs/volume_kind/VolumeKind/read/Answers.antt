@@ -1,4 +1,4 @@
-use Rattle.std.proofs.Common.{◌≡◌, Some, sym, ap, ◌∙◌, w64, SFits, rules}
+use Rattle.std.proofs.Common.{Some, sym, ap, ◌∙◌, w64, SFits, rules}
 use Rattle.std.specs.Option.{option_map}
 use Rattle.std.proofs.lemmas.Int.{to_z-of_z, int_wrap_fits}
 use Rattle.amount.specs.Volumes.{volume_of}

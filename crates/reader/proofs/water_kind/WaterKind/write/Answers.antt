@@ -1,4 +1,4 @@
-use Rattle.std.proofs.Common.{◌≡◌, ◌++◌, string_bytes, ap, ap₂, w32, to_z, of_z}
+use Rattle.std.proofs.Common.{◌++◌, string_bytes, ap, ap₂, w32, to_z, of_z}
 use Rattle.std.proofs.lemmas.Int.{to_z-of_z}
 use Rattle.text.specs.Printed.{number_field}
 use Rattle.reader.proofs.Writings.{written_after, written_as}
