@@ -10,8 +10,8 @@ use Rattle.model.specs.Sums.{gate, sum}
 use Rattle.model.specs.Groups.{Amounts, minus}
 use Rattle.model.specs.Interfaces.{Flux, Children, child}
 
--- Amounts on the faces of one level. over-x X Y is on the face between (X - 1, Y) and (X, Y), counted eastward;
--- over-y X Y is on the face between (X, Y - 1) and (X, Y), counted northward.
+-- Amounts on the faces of one level. over_x X Y is on the face between (X - 1, Y) and (X, Y), counted eastward;
+-- over_y X Y is on the face between (X, Y - 1) and (X, Y), counted northward.
 pub record Faces (A : Type 0) : Type 0 where
   pub over_x : Field A
   pub over_y : Field A
