@@ -565,6 +565,16 @@ units-fits units_fits
 wide-product wide_product
 wide-speed wide_speed
 wide-units wide_units
+getD_joined get_or-joined
+inFirst in_first
+inLevel in_level
+inSecond in_second
+inUse in_use
+inX in_x
+inY in_y
+nearX near_x
+nearY near_y
+outY out_y
 """
 
 TABLE = dict(line.split() for line in NAMES.split("\n") if line)

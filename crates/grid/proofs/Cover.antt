@@ -63,5 +63,5 @@ module _ (o : Layout) where
       and_from _ _ (lt-ltb x o.size.width (omega arith)) (lt-ltb y o.size.height (omega arith))
   covered_live (suc zero) x y e =
       let g = covered_inside 1 x y e in
-      o.nested (record { x = x; y = y; u = x; v = y; is_held = e; nearX = (omega arith, omega arith); nearY = (omega arith, omega arith); inX = omega arith; inY = omega arith })
+      o.nested (record { x = x; y = y; u = x; v = y; is_held = e; near_x = (omega arith, omega arith); near_y = (omega arith, omega arith); in_x = omega arith; in_y = omega arith })
   covered_live (suc (suc l)) x y e = absurd (true≢false (sym e))

@@ -75,9 +75,9 @@ pub patch_painted : (ps : List Patch) (i s y v : ℕ) (row next old : List ℕ) 
     → (k : ℕ) → get_or next k 0 ≡ cond (held (take (i + 1) ps) (k / s) y) v (get_or old k 0)
 patch_painted ps i s y v row next old lt pos lo hi before painted k =
     let p = get_or ps i no_patch in
-    let inX : (leb p.x0 (k / s) && ltb (k / s) p.x1) ≡ (leb (p.x0 * s) k && ltb k (p.x1 * s)) = ap₂ ◌&&◌ (leb_scaled s p.x0 k pos) (ltb_scaled s p.x1 k pos) in
-    let inY : (leb p.y0 y && ltb y p.y1) ≡ true = and_from _ _ (le-leb p.y0 y lo) (lt-ltb y p.y1 hi) in
-    let same : holds p (k / s) y ≡ (leb (p.x0 * s) k && ltb k (p.x1 * s)) = ap₂ ◌&&◌ inX inY ∙ and_true _ in
+    let in_x : (leb p.x0 (k / s) && ltb (k / s) p.x1) ≡ (leb (p.x0 * s) k && ltb k (p.x1 * s)) = ap₂ ◌&&◌ (leb_scaled s p.x0 k pos) (ltb_scaled s p.x1 k pos) in
+    let in_y : (leb p.y0 y && ltb y p.y1) ≡ true = and_from _ _ (le-leb p.y0 y lo) (lt-ltb y p.y1 hi) in
+    let same : holds p (k / s) y ≡ (leb (p.x0 * s) k && ltb k (p.x1 * s)) = ap₂ ◌&&◌ in_x in_y ∙ and_true _ in
     let both : held (take (i + 1) ps) (k / s) y ≡ (held (take i ps) (k / s) y || (leb (p.x0 * s) k && ltb k (p.x1 * s))) = held_more ps i (k / s) y lt ∙ ap (λ b. held (take i ps) (k / s) y || b) same in
     painted k
     ∙ (ap (λ n. cond (leb (p.x0 * s) k && ltb k (p.x1 * s)) v n) (before k)
@@ -91,7 +91,7 @@ pub patch_passed : (ps : List Patch) (i s y v : ℕ) (row old : List ℕ) → i 
     → (k : ℕ) → get_or row k 0 ≡ cond (held (take (i + 1) ps) (k / s) y) v (get_or old k 0)
 patch_passed ps i s y v row old lt out before k =
     let p = get_or ps i no_patch in
-    let outY : (leb p.y0 y && ltb y p.y1) ≡ false = ⊎_elim (λ q. and_right _ _ (le-ltb y p.y1 q.1)) (λ q. and_left _ _ (lt-leb p.y0 y q)) out in
-    let misses : holds p (k / s) y ≡ false = and_right _ _ outY in
+    let out_y : (leb p.y0 y && ltb y p.y1) ≡ false = ⊎_elim (λ q. and_right _ _ (le-ltb y p.y1 q.1)) (λ q. and_left _ _ (lt-leb p.y0 y q)) out in
+    let misses : holds p (k / s) y ≡ false = and_right _ _ out_y in
     let same : held (take (i + 1) ps) (k / s) y ≡ held (take i ps) (k / s) y = held_more ps i (k / s) y lt ∙ (ap (λ b. held (take i ps) (k / s) y || b) misses ∙ or_false _) in
     before k ∙ sym (ap (λ b. cond b v (get_or old k 0)) same)

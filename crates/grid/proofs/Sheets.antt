@@ -6,7 +6,7 @@ use Rattle.std.proofs.lemmas.List.FromFn.{length-map-range_with_len, get_or-map-
 use Rattle.std.proofs.lemmas.List.{ext_get_or}
 use Rattle.grid.specs.declared.size.Size.{Size}
 use Rattle.grid.specs.Sizes.{level_width, level_height, cells_below, in_mesh, level_start, sheet_length, index, row_sheet, level_sheet, sheet}
-use Rattle.grid.proofs.Joins.{length-joined, joined-below, joined_ends, getD_joined, found}
+use Rattle.grid.proofs.Joins.{length-joined, joined-below, joined_ends, get_or-joined, found}
 
 powers : (l : ℕ) → 3 * cells_below l + 1 ≡ 2 ^ l * 2 ^ l
 powers zero = refl
@@ -61,16 +61,16 @@ module _ {X : Type 0} (s : Size) (f : ℕ → ℕ → ℕ → X) where
       let in' = place_in_level l x y lx ly in
       let long = length-row l y in
       ap (λ n. get_or (sheet s f) n d) (let e : level_start s l + y * level_width s l + x ≡ level_start s l + (y * level_width s l + x) = omega arith in e)
-      ∙ (getD_joined (level_sheet s f) (level_start s) level_none level_more s.levels l (y * level_width s l + x) d ll in'
-      ∙ (getD_joined (row_sheet s f l) (λ k. k * level_width s l) (row_none l) (row_more l) (level_height s l) y x d ly (omega arith)
+      ∙ (get_or-joined (level_sheet s f) (level_start s) level_none level_more s.levels l (y * level_width s l + x) d ll in'
+      ∙ (get_or-joined (row_sheet s f l) (λ k. k * level_width s l) (row_none l) (row_more l) (level_height s l) y x d ly (omega arith)
       ∙ get_or-map-range_with_len (λ k. f l k y) 0 (level_width s l) x x d lx (omega arith)))
 
   -- each index below the length is that of a cell
   find : (j : ℕ) → j < sheet_length s → CellAt s j
   find j lj =
       let p = found (level_sheet s f) (level_start s) level_none level_more s.levels j lj in
-      let inLevel : p.i < level_height s p.k * level_width s p.k = omega (arith, length_level p.k, p.second) in
-      let q = found (row_sheet s f p.k) (λ k. k * level_width s p.k) (row_none p.k) (row_more p.k) (level_height s p.k) p.i inLevel in
+      let in_level : p.i < level_height s p.k * level_width s p.k = omega (arith, length_level p.k, p.second) in
+      let q = found (row_sheet s f p.k) (λ k. k * level_width s p.k) (row_none p.k) (row_more p.k) (level_height s p.k) p.i in_level in
       record {
         l = p.k;
         x = q.i;

@@ -26,9 +26,9 @@ pub record Shared (ps : List Patch) : Type 0 where
   pub x : ℕ
   pub y : ℕ
   pub order : i < j
-  pub inUse : j < length ps
-  pub inFirst : holds (slice_index_or ps i no_patch) x y ≡ true
-  pub inSecond : holds (slice_index_or ps j no_patch) x y ≡ true
+  pub in_use : j < length ps
+  pub in_first : holds (slice_index_or ps i no_patch) x y ≡ true
+  pub in_second : holds (slice_index_or ps j no_patch) x y ≡ true
 
 -- no cell lies in two patches of the list
 abbrev pub Apart : List Patch → Type 0
@@ -45,10 +45,10 @@ pub record Beside (w h : ℕ) (ps : List Patch) : Type 0 where
   pub u : ℕ
   pub v : ℕ
   pub is_held : held ps x y ≡ true
-  pub nearX : Near x u
-  pub nearY : Near y v
-  pub inX : u < w
-  pub inY : v < h
+  pub near_x : Near x u
+  pub near_y : Near y v
+  pub in_x : u < w
+  pub in_y : v < h
 
 -- Where a patch of level 2 holds a cell of level 1, a grid of 2w by 2h cells, this cell and its ring lie in patches of level 1.
 abbrev pub Nested : (w h : ℕ) (first second : List Patch) → Type 0

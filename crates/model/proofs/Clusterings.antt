@@ -205,7 +205,7 @@ module _ (w h : ℕ) (wanted : ℕ → ℕ → Bool) (row : ℕ → List Patch) 
       let r = rows h 0 (zero-add h) in
       record {
         in_grid = all_inside w h (by_rows row h 0) r.in_grid;
-        apart = λ c. apart_all (by_rows row h 0) r.apart c.i c.j c.x c.y c.order c.inUse c.inFirst c.inSecond;
+        apart = λ c. apart_all (by_rows row h 0) r.apart c.i c.j c.x c.y c.order c.in_use c.in_first c.in_second;
         only_nested = λ x y t. let p = r.only x y t in f x y p.2 p.1 p.3;
         every_wanted = λ x y i j t. r.full x y zero-le j i t;
       }

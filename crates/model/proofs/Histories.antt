@@ -44,7 +44,7 @@ passed false n others e = let z : ◌≡◌ {A = ℕ} 0 1 = cc in absurd (omega 
 opened_laid : (size : Size) → WellLaid size (λ k. [])
 opened_laid size = record {
   inside = λ l i h. absurd (omega arith);
-  apart = λ k c. absurd (omega (arith, c.inUse));
+  apart = λ k c. absurd (omega (arith, c.in_use));
   few = λ k. zero-le;
   none_past = λ k h. refl;
   covered_live = λ l x y c. absurd (false≢true c);
