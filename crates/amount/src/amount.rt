@@ -2,7 +2,8 @@
 ghost use Rattle.std.specs.Prelude.{◌≡◌};
 ghost use Rattle.amount.specs.Additions.{Addition, Sums};
 
-// A kind of amount. Zero and addition, with their laws, come first and name nothing of the negation below them.
+// A kind of amount. Zero and addition come first and name nothing of the negation below them; the laws stand last, those of zero and
+// addition before the one that names the negation.
 pub trait Amount: Copy {
     ghost addition: { Addition Self };
 
