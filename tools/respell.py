@@ -528,7 +528,7 @@ field-within field_within
 number-field number_field
 small-canal small_canal
 Small-canal SmallCanal
-Bounded-of BoundedOf
+Bounded-of bounded_of
 Cell-at CellAt
 Line-run LineRun
 Narrow-parts NarrowParts

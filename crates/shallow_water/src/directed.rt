@@ -3,7 +3,7 @@ ghost use Rattle.std.specs.Prelude.{◌≡◌, pos, ◌≤ℤ◌};
 ghost use Rattle.amount.specs.Waters.{water_of};
 ghost use Rattle.interfaces.specs.Whole.{bring_into};
 ghost use Rattle.shallow_water.specs.Ranges.{Small, Narrow, SmallParts, NarrowParts};
-ghost use Rattle.shallow_water.specs.Waves.{bound, bounded as BoundedOf, seen as seen_of, water_along, mirror as mirror_of};
+ghost use Rattle.shallow_water.specs.Waves.{bound, bounded as bounded_of, seen as seen_of, water_along, mirror as mirror_of};
 
 use crate::along::Along;
 use crate::whole::{BOUND, bounded};
@@ -21,7 +21,7 @@ fn bounded_volume(volume: i32) -> i64
 
 // A volume, the momentum along a direction and the other one, brought into their ranges.
 fn bounded_parts(volume: i32, along: i32, other: i32) -> Along
-    ensures value { result ≡ record { v = bring_into (pos 0) bound volume; n = BoundedOf along; t = BoundedOf other } }
+    ensures value { result ≡ record { v = bring_into (pos 0) bound volume; n = bounded_of along; t = bounded_of other } }
     ensures range { SmallParts result }
     ensures sign { pos 0 ≤ℤ result.v }
 {

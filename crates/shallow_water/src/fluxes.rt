@@ -2,7 +2,7 @@
 ghost use Rattle.std.specs.Prelude.{◌≡◌, ◌*◌, ◌/◌, ◌^◌, ◌≤◌, min, pos, ◌*ℤ◌, ◌≤ℤ◌, ◌<ℤ◌, unsigned_abs};
 ghost use Rattle.interfaces.specs.Whole.{floor_div};
 ghost use Rattle.shallow_water.specs.Ranges.{Small, SmallParts};
-ghost use Rattle.shallow_water.specs.Waves.{bounded as BoundedOf, momentum_flux, fluxes as fluxes_of};
+ghost use Rattle.shallow_water.specs.Waves.{bounded as bounded_of, momentum_flux, fluxes as fluxes_of};
 
 use crate::along::Along;
 use crate::shallow_water::ShallowWater;
@@ -33,7 +33,7 @@ impl ShallowWater {
     fn momentum_flux(self, level: usize, water: Along) -> i64
         requires range { SmallParts water }
         requires volume { pos 0 <ℤ water.v }
-        ensures value { result ≡ BoundedOf (momentum_flux self.shift level water) }
+        ensures value { result ≡ bounded_of (momentum_flux self.shift level water) }
         ensures range { Small result }
     {
         bounded(carried(water.n, water.n, water.v) + self.pressure(level, water.v as u64))
