@@ -58,7 +58,7 @@ index-once index_once
 index-given index_given
 index-absent index_absent
 joined-ends joined_ends
-getD-joined getD_joined
+getD-joined get_or-joined
 cases-le cases_le
 or-false or_false
 and-true and_true
@@ -565,7 +565,6 @@ units-fits units_fits
 wide-product wide_product
 wide-speed wide_speed
 wide-units wide_units
-getD_joined get_or-joined
 inFirst in_first
 inLevel in_level
 inSecond in_second
