@@ -1,8 +1,8 @@
 -- The patches that hold a cell, and what the invariant of a layout says of every level. Assumes nothing.
-use Rattle.std.proofs.Common.{◌≡◌, ℕ, zero, suc, ◌+◌, ◌<◌, ◌≤◌, true, List, length, get_or, Decides, sym, refl, ap, ◌∙◌, ⊎_elim, arith}
+use Rattle.std.proofs.Common.{◌≡◌, ℕ, zero, suc, ◌+◌, ◌<◌, ◌≤◌, true, List, length, get_or, Decides, sym, refl, ap, ◌∙◌, arith}
 use Rattle.std.specs.List.{HoldsAt}
-use Rattle.std.proofs.lemmas.Bool.Decides.{Decides-by_or}
-use Rattle.std.proofs.lemmas.Bool.{and_parts, and_from, leb-true, ltb-true, lt-ltb, true≢false, cases_lt}
+use Rattle.std.proofs.lemmas.Bool.Decides.{Decides-by_or, nat_tests}
+use Rattle.std.proofs.lemmas.Bool.{true≢false}
 use Rattle.std.proofs.lemmas.List.{get_or-take, length-take-le}
 use Rattle.grid.specs.declared.patch.Patch.{Patch}
 use Rattle.grid.specs.declared.table.PatchTable.{PatchTable}
@@ -14,17 +14,13 @@ use Rattle.grid.specs.Hierarchies.{live}
 use Rattle.grid.specs.Layouts.{hierarchy_of}
 
 pub holds_parts : (p : Patch) (x y : ℕ) → holds p x y ≡ true → (p.x0 ≤ x) × (x < p.x1) × (p.y0 ≤ y) × (y < p.y1)
-holds_parts p x y e =
-    let q = and_parts _ _ e in
-    let a = and_parts _ _ q.0 in
-    let b = and_parts _ _ q.1 in
-    (leb-true p.x0 x a.0, ltb-true x p.x1 a.1, leb-true p.y0 y b.0, ltb-true y p.y1 b.1)
+holds_parts p x y e = (grind (arith, nat_tests), grind (arith, nat_tests), grind (arith, nat_tests), grind (arith, nat_tests))
 
 -- a list holds a cell exactly when one of its patches does
 pub held_decides : (ps : List Patch) (x y : ℕ) → Decides (held ps x y) ((k : ℕ) × (k < length ps) × HoldsAt (λ p. holds p x y ≡ true) ps k)
 held_decides ps x y = Decides-by_or (λ p. holds p x y) (λ p. holds p x y ≡ true) (λ qs. held qs x y) (λ p. (λ e. e, λ e. e)) refl (λ _ _. refl) ps
 
-length-used : (t : PatchTable) → length (used t) ≡ t.count
+pub length-used : (t : PatchTable) → length (used t) ≡ t.count
 length-used t = length-take-le t.count t.patches (omega (arith, t.whole, t.few))
 
 pub held_some : (t : PatchTable) (x y : ℕ) → held (used t) x y ≡ true → (i : ℕ) × (i < t.count) × (holds (get_or t.patches i no_patch) x y ≡ true)
@@ -46,21 +42,13 @@ module _ (o : Layout) where
   -- only cells of the grid, and of levels that have a next one, are covered
   pub covered_inside : (l x y : ℕ) → (hierarchy_of o).covered l x y ≡ true
       → (x < level_width o.size l) × (y < level_height o.size l) × (l + 1 < o.size.levels)
-  covered_inside zero x y e =
-      let s = held_inside o.first x y e in
-      let deep : 1 < o.size.levels = ⊎_elim (λ lt. absurd (omega (arith, o.nofirst lt))) (λ ge. ge) (cases_lt o.size.levels 2) in
-      (omega arith, omega arith, deep)
-  covered_inside (suc zero) x y e =
-      let s = held_inside o.second x y e in
-      let deep : 2 < o.size.levels = ⊎_elim (λ lt. absurd (omega (arith, o.nosecond lt))) (λ ge. ge) (cases_lt o.size.levels 3) in
-      (omega arith, omega arith, deep)
+  covered_inside zero x y e = let h = held_inside o.first x y e in (omega arith, omega arith, grind (arith, o.nofirst))
+  covered_inside (suc zero) x y e = let h = held_inside o.second x y e in (omega arith, omega arith, grind (arith, o.nosecond))
   covered_inside (suc (suc l)) x y e = absurd (true≢false (sym e))
 
   -- a covered cell is live
   pub covered_live : (l x y : ℕ) → (hierarchy_of o).covered l x y ≡ true → live (hierarchy_of o) l x y ≡ true
-  covered_live zero x y e =
-      let g = covered_inside 0 x y e in
-      and_from _ _ (lt-ltb x o.size.width (omega arith)) (lt-ltb y o.size.height (omega arith))
+  covered_live zero x y e = let g = covered_inside 0 x y e in grind (arith, nat_tests)
   covered_live (suc zero) x y e =
       let g = covered_inside 1 x y e in
       o.nested (record { x = x; y = y; u = x; v = y; is_held = e; near_x = (omega arith, omega arith); near_y = (omega arith, omega arith); in_x = omega arith; in_y = omega arith })

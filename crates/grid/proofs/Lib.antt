@@ -1,6 +1,7 @@
 pub mod Joins
 pub mod Sheets
-pub mod Parts
+pub mod Levels
+pub mod Finds
 pub mod Paints
 pub mod Indices
 pub mod Rows

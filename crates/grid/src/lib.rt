@@ -4,8 +4,9 @@
 mod cells;
 mod geometry;
 mod layout;
-mod levels;
+mod level;
 mod makes;
+mod mark;
 mod marks;
 mod paint;
 mod patch;
@@ -15,6 +16,7 @@ mod size;
 mod table;
 
 pub use layout::Layout;
+pub use mark::Mark;
 pub use patch::Patch;
 pub use place::Place;
 pub use side::Side;

@@ -16,12 +16,7 @@ impl PatchTable {
         PatchTable {
             width,
             height,
-            patches: [Patch {
-                x0: 0,
-                y0: 0,
-                x1: 0,
-                y1: 0,
-            }; 128],
+            patches: [Patch::default(); 128],
             count: 0,
         }
     }
@@ -37,10 +32,11 @@ impl Layout {
             height,
             levels,
         } = size;
-        if width < 1 || width > 64 || height < 1 || height > 64 {
-            return None;
-        }
-        if width * height > 1024 || levels < 1 || levels > 3 {
+        let in_range = (1..=64).contains(&width)
+            && (1..=64).contains(&height)
+            && (1..=3).contains(&levels)
+            && width * height <= 1024;
+        if !in_range {
             return None;
         }
         let first = PatchTable::empty(width, height);

@@ -1,5 +1,5 @@
 // The four sides of a cell and of the grid.
-#[derive(Clone, Copy)]
+#[derive(Clone, Copy, PartialEq, Eq, Debug)]
 pub enum Side {
     West,
     East,

@@ -1,5 +1,5 @@
 // How large a mesh is: width by height base cells, and a number of levels.
-#[derive(Clone, Copy)]
+#[derive(Clone, Copy, PartialEq, Eq, Debug)]
 pub struct Size {
     pub width: usize,
     pub height: usize,

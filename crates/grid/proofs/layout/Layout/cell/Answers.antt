@@ -1,16 +1,9 @@
-use Rattle.std.proofs.Common.{◌≡◌, ◌-◌, true, sym, ◌∙◌, subst, arith}
-use Rattle.grid.specs.declared.place.Place.{Place}
-use Rattle.grid.specs.Sizes.{in_mesh, index}
-use Rattle.grid.proofs.Sheets.{level_ends, offset_cell}
+use Rattle.std.proofs.Common.{rules}
+use Rattle.grid.proofs.Finds.{find_map_gives}
+use Rattle.grid.proofs.Levels.{CellOf, cell_of_levels}
 use Rattle.grid.proofs.layout.Layout.cell.Goals as goal
 
-pub returns-then-index-level_start : goal.returns-then-index-level_start
-returns-then-index-level_start c =
-    let s = c.args.self.now.size in
-    let l = c.loop-level.level in
-    let ends = level_ends s l in
-    let w = c.level_width.result in
-    let f = c.args.index - c.level_start-then-index-level_start.result in
-    let at = offset_cell s l f w c.level_width.ensures.0 c.loop-level-test.true (omega arith) (omega arith) in
-    let Is : Place → Type 0 = λ p. (in_mesh s l p.x p.y ≡ true) × (index s l p.x p.y ≡ c.args.index) in
-    subst Is (sym c.place_at-place.ensures) (at.0, at.1 ∙ omega arith)
+pub returns : goal.returns
+returns c =
+    cell_of_levels c.args.self.now.size c.args.index c.find_map.result
+    (find_map_gives c.args.self.now.size.levels _ (λ l. CellOf c.args.self.now.size l c.args.index) (λ a r q k. search rules) (λ l r lt k. search rules) c.find_map.result c.find_map.ensures.runs)
