@@ -5,15 +5,21 @@ use Rattle.amount.specs.Volumes.{volume_of, minus}
 use Rattle.model.specs.declared.direction.Direction.{Direction}
 use Rattle.model.specs.Interfaces.{Flux}
 use Rattle.interfaces.specs.Whole.{floor_div, lies_within}
-use Rattle.interfaces.specs.Sides.{across, inward_over}
+use Rattle.model.specs.Sides.{across}
+use Rattle.interfaces.specs.Sides.{inward_over}
+use Rattle.fluxes.specs.declared.speed.Speed.{Speed}
 use Rattle.fluxes.specs.declared.advection.Advection.{Advection}
 
 -- the speeds that there are: -128 to 128, in 256ths of a cell a step
+abbrev pub is_speed : ℤ → Bool
+is_speed c = lies_within (negsuc 127) (pos 128) c
+
+-- both are speeds
 abbrev pub in_range : (cx cy : ℤ) → Bool
-in_range cx cy = lies_within (negsuc 127) (pos 128) cx && lies_within (negsuc 127) (pos 128) cy
+in_range cx cy = is_speed cx && is_speed cy
 
 -- the speed along a direction
-abbrev pub speed : Advection → Direction → ℤ
+abbrev pub speed : Advection → Direction → Speed
 speed a Direction.East = a.cx
 speed a Direction.North = a.cy
 
@@ -24,9 +30,9 @@ moved c low high = volume_of (floor_div (c *ℤ cond (int_le (pos 0) c) low.unit
 -- At the boundary the outer cell is empty.
 abbrev pub advection : Advection → Flux Volume
 advection a = record {
-  interior = λ level direction low high. moved (speed a direction) low high;
+  interior = λ level direction low high. moved (speed a direction).parts low high;
   boundary = λ level side place steps content.
-      inward_over minus (moved (speed a (across side))) side (volume_of (pos 0)) content;
+      inward_over minus (moved (speed a (across side)).parts) side (volume_of (pos 0)) content;
 }
 
 -- At speed 64, 25 moves from a low cell that holds 100, and -1 from one that holds -2, whatever the high one holds.

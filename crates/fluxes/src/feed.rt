@@ -7,7 +7,7 @@ use interfaces::Flux;
 use model::Direction;
 
 // The rule below, with one of three amounts, by level, added to what it lets in at the west side. Levels past the third get nothing.
-#[derive(Drop)]
+#[derive(PartialEq, Eq, Debug, Drop)]
 pub struct Feed<R, V> {
     pub below: R,
     pub amounts: [V; 3],
@@ -22,8 +22,8 @@ impl<V: Amount, R: Flux<V>> Flux<V> for Feed<R, V> {
 
     fn boundary(&self, level: usize, side: Side, place: usize, steps: u32, content: V) -> V {
         let inward = self.below.boundary(level, side, place, steps, content);
-        match side {
-            Side::West if level < 3 => inward.add(self.amounts[level]),
+        match (side, self.amounts.get(level)) {
+            (Side::West, Some(amount)) => inward.add(*amount),
             _ => inward,
         }
     }

@@ -2,9 +2,9 @@
 #![tactic(auto)]
 
 mod advection;
-mod advection_flux;
 mod feed;
+mod speed;
 
-pub use advection::Advection;
-pub use advection_flux::advection_examples;
+pub use advection::{Advection, advection_examples};
 pub use feed::Feed;
+pub use speed::Speed;

@@ -1,14 +1,6 @@
 -- The flux at a side of the grid, from the flux between two cells. Assumes nothing.
 use Rattle.grid.specs.declared.side.Side.{Side}
 use Rattle.grid.specs.declared.side.Side.TheVariants.{West, East, South, North}
-use Rattle.model.specs.declared.direction.Direction.{Direction}
-
--- the direction across a side
-abbrev pub across : Side → Direction
-across West = Direction.East
-across East = Direction.East
-across South = Direction.North
-across North = Direction.North
 
 -- What moves inward over a side, by the amount that moves between a low and a high cell: at the west and south the outer cell is the low
 -- one; at the east and north it is the high one, and what moves inward is the negation.

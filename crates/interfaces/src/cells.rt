@@ -2,7 +2,8 @@
 ghost use Rattle.std.specs.Prelude.{◌≡◌, ◌*◌, length};
 
 // The wanted and the properly nested cells of a grid, a byte for each cell, row by row from the south-west: 0 is no.
-#[derive(Clone, Copy)]
+// Two maps side by side, as memory is lent: the library allocates nothing.
+#[derive(Clone, Copy, PartialEq, Eq, Debug)]
 pub struct CellMaps<'a> {
     pub width: usize,
     pub height: usize,

@@ -7,7 +7,7 @@ use crate::cells::CellMaps;
 use grid::Patch;
 
 // The list of boxes is longer than the patches that were lent for it.
-#[derive(Clone, Copy)]
+#[derive(Clone, Copy, PartialEq, Eq, Debug)]
 pub struct TooMany;
 
 // Which patches cover the wanted cells.
@@ -15,6 +15,7 @@ pub trait Clustering {
     ghost boxes: { Self → ClusteringRule };
 
     // Writes the boxes into the first of the patches, in their order, and answers how many there are.
+    // The patches are lent: the library allocates nothing.
     fn cluster(&self, cells: &CellMaps<'_>, patches: &mut [Patch]) -> Result<usize, TooMany>
         ensures { Clustered result patches.old patches.new (asked (boxes self.now) cells.now) };
 

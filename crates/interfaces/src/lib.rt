@@ -2,15 +2,16 @@
 // cover the wanted cells. An answer is a fixed function of the implementation's value and of what is asked.
 #![tactic(auto)]
 
+mod between;
 mod cells;
 mod clustering;
 mod flagging;
 mod flux;
 mod neighbours;
 mod refusal;
-mod refusals;
 mod split;
 
+pub use between::Between;
 pub use cells::CellMaps;
 pub use clustering::{Clustering, TooMany};
 pub use flagging::Flagging;

@@ -1,5 +1,5 @@
 // The contents of a cell's four neighbours. An absent neighbour counts as the cell itself.
-#[derive(Clone, Copy)]
+#[derive(Clone, Copy, PartialEq, Eq, Debug)]
 pub struct Neighbours<V> {
     pub west: V,
     pub east: V,

@@ -1,6 +1,19 @@
+ghost use Rattle.std.specs.Prelude.{◌≡◌};
+
 // Why a rule is not made.
-#[derive(Clone, Copy)]
+#[derive(Clone, Copy, PartialEq, Eq, Debug)]
 pub enum RuleRefusal {
-    // 14: a number is outside its range
-    OutOfRange,
+    // a number is outside its range
+    OutOfRange = 14,
+}
+
+impl RuleRefusal {
+    ghost use Rattle.interfaces.specs.Refusals.{number_of};
+
+    // The number of a refusal, as docs/REFUSALS.md explains it.
+    pub fn number(self) -> u8
+        ensures { result ≡ number_of self }
+    {
+        self as u8
+    }
 }

@@ -2,13 +2,13 @@
 use Rattle.std.proofs.Common.{◌≡◌, ℕ, zero, suc, ◌+◌, ◌<◌, ◌≤◌, Bool, true, false, ◌&&◌, ◌||◌, ltb, leb, List, [], ◌∷◌, ◌++◌, length, get_or, Some, None, Option, sym, refl, ap, ◌∙◌, subst, inl, inr, true≢false, zero-le, le_refl, le_of_suc-le-suc, lt_irrefl, zero-add, arith}
 use mathlib.Core.Bool.{false≢true}
 use native.Mathlib.Decide.{ℕ_discrete, dec_lt}
-use Rattle.std.proofs.lemmas.Bool.{and_parts, cond_both, leb-true, ltb-true, le-leb, lt-ltb}
+use Rattle.std.proofs.lemmas.Bool.{and_parts, cond_both, leb-true, ltb-true, le-leb, lt-ltb, and_from, or_cases, or_left, or_right}
+use Rattle.std.proofs.Math.Bool.{or_assoc}
 use Rattle.grid.specs.declared.patch.Patch.{Patch}
 use Rattle.grid.specs.Boxes.{no_patch, holds, held, Inside}
 use Rattle.model.specs.Nesting.{AllInside}
 use Rattle.model.specs.Wanted.{Clustered}
 use Rattle.model.specs.Clusterings.{stretch, by_rows, row_cells, row_runs, cells, runs, ClusteringsLawful}
-use Rattle.model.proofs.Rings.{and_so, or_first, or_second, one_of}
 
 -- each patch of a list is inside; and holds no cell that a later one holds: patch by patch
 abbrev AllInGrid : (w h : ℕ) → List Patch → Type 0
@@ -26,8 +26,8 @@ all_inside w h (p ∷ ps) a (suc i) e = all_inside w h ps a.1 i (le_of_suc-le-su
 
 held_at : (ps : List Patch) (k x y : ℕ) → k < length ps → holds (get_or ps k no_patch) x y ≡ true → held ps x y ≡ true
 held_at [] k x y h e = absurd (omega arith)
-held_at (p ∷ ps) zero x y h e = or_first (held ps x y) e
-held_at (p ∷ ps) (suc k) x y h e = or_second (holds p x y) (held_at ps k x y (le_of_suc-le-suc h) e)
+held_at (p ∷ ps) zero x y h e = or_left _ (held ps x y) e
+held_at (p ∷ ps) (suc k) x y h e = or_right (holds p x y) _ (held_at ps k x y (le_of_suc-le-suc h) e)
 
 apart_all : (ps : List Patch) → ApartEach ps → (i j x y : ℕ) → i < j → j < length ps → holds (get_or ps i no_patch) x y ≡ true
     → holds (get_or ps j no_patch) x y ≡ true → ⊥
@@ -44,7 +44,7 @@ stretch_of a b y X Y e =
     (leb-true a X q.0, ltb-true X b q.1, leb-true y Y r.0, ltb-true Y (suc y) r.1)
 
 stretch_so : (a b y X : ℕ) → a ≤ X → X < b → holds (stretch a b y) X y ≡ true
-stretch_so a b y X h g = and_so (and_so (le-leb a X h) (lt-ltb X b g)) (and_so (le-leb y y (le_refl y)) (lt-ltb y (suc y) (le_refl (suc y))))
+stretch_so a b y X h g = and_from _ _ (and_from _ _ (le-leb a X h) (lt-ltb X b g)) (and_from _ _ (le-leb y y (le_refl y)) (lt-ltb y (suc y) (le_refl (suc y))))
 
 -- boxes of row y that hold its wanted cells from a column on, and nothing else
 record Row (w y : ℕ) (wanted : ℕ → Bool) (from : ℕ) (bs : List Patch) : Type 0 where
@@ -78,21 +78,27 @@ module _ (w y : ℕ) (wanted : ℕ → Bool) where
   one_more : (a x x' : ℕ) (bs : List Patch) → a < x → x ≤ w → x ≤ x' → ((i : ℕ) → a ≤ i → i < x → wanted i ≡ true)
       → ((i : ℕ) → x ≤ i → i < x' → wanted i ≡ false) → Row w y wanted x' bs → Row w y wanted a (stretch a x y ∷ bs)
   one_more a x x' bs h k g all gap r = record {
-    only = λ X Y e. elim (one_of (holds (stretch a x y) X Y) e) [
+    only = λ X Y e. elim (or_cases (holds (stretch a x y) X Y) _ e) [
       | inl t ↦ let p = stretch_of a x y X Y t in
           (omega (arith, p.2, p.3), p.0, omega (arith, p.1), all X p.0 p.1)
       | inr t ↦ let p = r.only X Y t in (p.0, omega (arith, p.1), p.2, p.3)
     ];
     full = λ X i j e. elim (dec_lt X x) [
-      | yes q ↦ or_first _ (stretch_so a x y X i q)
+      | yes q ↦ or_left _ _ (stretch_so a x y X i q)
       | no q ↦ elim (dec_lt X x') [
         | yes q' ↦ absurd (true≢false (sym e ∙ gap X (omega arith) q'))
-        | no q' ↦ or_second (holds (stretch a x y) X y) (r.full X (omega arith) j e)
+        | no q' ↦ or_right (holds (stretch a x y) X y) _ (r.full X (omega arith) j e)
       ]
     ];
     apart = (λ X Y s t. let p = stretch_of a x y X Y s in let q = r.only X Y t in lt_irrefl X (omega (arith, p.1, q.1)), r.apart);
     in_row = λ H i. ((h, k, le_refl (suc y), i), r.in_row H i);
   }
+
+  only_at : (x : ℕ) (b : Bool) → wanted x ≡ b → (i : ℕ) → x ≤ i → i < suc x → wanted i ≡ b
+  only_at x b t i p q = ap wanted (between i x p q) ∙ t
+    where
+      between : (i x : ℕ) → x ≤ i → i < suc x → i ≡ x
+      between i x p q = omega arith
 
   cells_row : (d x : ℕ) → x + d ≡ w → Row w y wanted x (row_cells wanted y d x)
   unfolding row_cells
@@ -101,11 +107,8 @@ module _ (w y : ℕ) (wanted : ℕ → Bool) where
       let r = cells_row d (suc x) (omega arith) in
       cond_both (wanted x) _ _ (Row w y wanted x)
       (λ t. one_more x (suc x) (suc x) _ (le_refl (suc x)) (omega arith) (le_refl (suc x))
-      (λ i p q. ap wanted (between i x p q) ∙ t) (λ i p q. absurd (lt_irrefl i (omega arith))) r)
+      (only_at x true t) (λ i p q. absurd (lt_irrefl i (omega arith))) r)
       (λ n. passed_by x _ n r)
-    where
-      between : (i x : ℕ) → x ≤ i → i < suc x → i ≡ x
-      between i x p q = omega arith
 
   -- where a run that is open starts
   abbrev Start : Option ℕ → ℕ → ℕ → Type 0
@@ -115,18 +118,6 @@ module _ (w y : ℕ) (wanted : ℕ → Bool) where
   longer : (a x : ℕ) → ((i : ℕ) → a ≤ i → i < x → wanted i ≡ true) → wanted x ≡ true → (i : ℕ) → a ≤ i → i < suc x → wanted i ≡ true
   longer a x all t i p q = elim (ℕ_discrete i x) [ yes e ↦ ap wanted e ∙ t | no n ↦ all i p (omega arith) ]
 
-  only_at : (x : ℕ) → wanted x ≡ true → (i : ℕ) → x ≤ i → i < suc x → wanted i ≡ true
-  only_at x t i p q = ap wanted (between i x p q) ∙ t
-    where
-      between : (i x : ℕ) → x ≤ i → i < suc x → i ≡ x
-      between i x p q = omega arith
-
-  gap_at : (x : ℕ) → wanted x ≡ false → (i : ℕ) → x ≤ i → i < suc x → wanted i ≡ false
-  gap_at x t i p q = ap wanted (between i x p q) ∙ t
-    where
-      between : (i x : ℕ) → x ≤ i → i < suc x → i ≡ x
-      between i x p q = omega arith
-
   runs_row : (d x : ℕ) (o : Option ℕ) (from : ℕ) → x + d ≡ w → Start o x from → Row w y wanted from (row_runs wanted y d x o)
   unfolding row_runs
   runs_row zero x None from e s = no_row from (omega arith)
@@ -135,31 +126,27 @@ module _ (w y : ℕ) (wanted : ℕ → Bool) where
       (one_more a x x [] s.1 (omega arith) (le_refl x) s.2 (λ i p q. absurd (lt_irrefl i (omega arith))) (no_row x (omega arith)))
   runs_row (suc d) x None from e s =
       cond_both (wanted x) _ _ (Row w y wanted from)
-      (λ t. runs_row d (suc x) (Some x) from (omega arith) (s, le_refl (suc x), only_at x t))
+      (λ t. runs_row d (suc x) (Some x) from (omega arith) (s, le_refl (suc x), only_at x true t))
       (λ n. subst (λ k. Row w y wanted k (row_runs wanted y d (suc x) None)) (sym s)
       (passed_by x _ n (runs_row d (suc x) None (suc x) (omega arith) refl)))
   runs_row (suc d) x (Some a) from e s =
       cond_both (wanted x) _ _ (Row w y wanted from)
       (λ t. runs_row d (suc x) (Some a) from (omega arith) (s.0, omega (arith, s.1), longer a x s.2 t))
       (λ n. subst (λ k. Row w y wanted k (stretch a x y ∷ row_runs wanted y d (suc x) None)) (sym s.0)
-      (one_more a x (suc x) _ s.1 (omega arith) (omega arith) s.2 (gap_at x n) (runs_row d (suc x) None (suc x) (omega arith) refl)))
+      (one_more a x (suc x) _ s.1 (omega arith) (omega arith) s.2 (only_at x false n) (runs_row d (suc x) None (suc x) (omega arith) refl)))
 
 held-append : (fs bs : List Patch) (x y : ℕ) → held (fs ++ bs) x y ≡ (held fs x y || held bs x y)
 held-append [] bs x y = refl
 held-append (a ∷ fs) bs x y = ap (λ b. holds a x y || b) (held-append fs bs x y) ∙ sym (or_assoc (holds a x y) (held fs x y) (held bs x y))
-  where
-    or_assoc : (a b c : Bool) → ((a || b) || c) ≡ (a || (b || c))
-    or_assoc true b c = refl
-    or_assoc false b c = refl
 
 apart-append : (fs bs : List Patch) → ApartEach fs → ApartEach bs → ((x y : ℕ) → held fs x y ≡ true → held bs x y ≡ true → ⊥) → ApartEach (fs ++ bs)
 apart-append [] bs p q d = q
 apart-append (a ∷ fs) bs p q d = (
-  λ x y s t. elim (one_of (held fs x y) (sym (held-append fs bs x y) ∙ t)) [
+  λ x y s t. elim (or_cases (held fs x y) _ (sym (held-append fs bs x y) ∙ t)) [
     | inl i ↦ p.0 x y s i
-    | inr i ↦ d x y (or_first _ s) i
+    | inr i ↦ d x y (or_left _ _ s) i
   ],
-  apart-append fs bs p.1 q (λ x y s t. d x y (or_second (holds a x y) s) t),
+  apart-append fs bs p.1 q (λ x y s t. d x y (or_right (holds a x y) _ s) t),
 )
 
 in_append : (w h : ℕ) (fs bs : List Patch) → AllInGrid w h fs → AllInGrid w h bs → AllInGrid w h (fs ++ bs)
@@ -185,14 +172,14 @@ module _ (w h : ℕ) (wanted : ℕ → ℕ → Bool) (row : ℕ → List Patch) 
       let r = rows d (suc y) (omega arith) in
       let g = good y in
       record {
-        only = λ X Y t. elim (one_of (held (row y) X Y) (sym (held-append (row y) _ X Y) ∙ t)) [
+        only = λ X Y t. elim (or_cases (held (row y) X Y) _ (sym (held-append (row y) _ X Y) ∙ t)) [
           | inl s ↦ let p = g.only X Y s in
               (omega (arith, p.0), omega (arith, p.0), p.2, ap (λ z. wanted X z) p.0 ∙ p.3)
           | inr s ↦ let p = r.only X Y s in (omega (arith, p.0), p.1, p.2, p.3)
         ];
         full = λ X Y i j k t. held-append (row y) _ X Y ∙ elim (ℕ_discrete Y y) [
-          | yes q ↦ or_first _ (subst (λ z. held (row y) X z ≡ true) (sym q) (g.full X zero-le k (ap (λ z. wanted X z) (sym q) ∙ t)))
-          | no q ↦ or_second (held (row y) X Y) (r.full X Y (omega arith) j k t)
+          | yes q ↦ or_left _ _ (subst (λ z. held (row y) X z ≡ true) (sym q) (g.full X zero-le k (ap (λ z. wanted X z) (sym q) ∙ t)))
+          | no q ↦ or_right (held (row y) X Y) _ (r.full X Y (omega arith) j k t)
         ];
         apart = apart-append (row y) _ g.apart r.apart (λ X Y s t.
             let p = g.only X Y s in let q = r.only X Y t in lt_irrefl Y (omega (arith, p.0, q.0)));

@@ -1,7 +1,7 @@
 -- Cells that are not live: no call but a regrid changes them.
 use Rattle.std.proofs.Common.{◌≡◌, ℕ, zero, suc, ◌*◌, true, false, not, ◌&&◌, eqb, sym, refl, ap, ◌∙◌, subst, ap₂, true≢false}
 use native.Mathlib.Decide.{ℕ_discrete}
-use Rattle.std.proofs.lemmas.Bool.{cond-false, cond_both, and_parts, eqb-true}
+use Rattle.std.proofs.lemmas.Bool.{cond-false, cond_both, and_parts, eqb-true, false_from_ne_true}
 use Rattle.grid.specs.Hierarchies.{Hierarchy, live, leaf}
 use Rattle.model.specs.Fields.{Field, Fields, write}
 use Rattle.model.specs.Pour.{added, pour}
@@ -9,13 +9,12 @@ use Rattle.model.specs.Groups.{Amounts}
 use Rattle.model.specs.Nesting.{Nested}
 use Rattle.model.specs.Interfaces.{Flux, Children}
 use Rattle.model.specs.Step.{reflux, restrict, advance, level_step, step}
-use Rattle.model.proofs.Faces.{not_so}
 use Rattle.model.proofs.Writes.{write_same, write_other}
 use Rattle.model.proofs.Pours.{at_corner}
 
 module _ {A : Type 0} (G : Amounts A) (M : Hierarchy) (L : ℕ) (N : Nested M L) where
   pub not_covered : (l x y : ℕ) → live M l x y ≡ false → M.covered l x y ≡ false
-  not_covered l x y h = not_so _ (λ c. true≢false (sym (N.itself l x y c) ∙ h))
+  not_covered l x y h = false_from_ne_true _ (λ c. true≢false (sym (N.itself l x y c) ∙ h))
 
   not_leaf : (l x y : ℕ) → live M l x y ≡ false → leaf M l x y ≡ false
   not_leaf l x y h = ap (λ b. b && not (M.covered l x y)) h
@@ -55,7 +54,7 @@ module _ {A : Type 0} (G : Amounts A) (M : Hierarchy) (L : ℕ) (N : Nested M L)
     where
       elsewhere : live M l i j ≡ false → (eqb i x && eqb j y) ≡ false
       elsewhere h =
-          not_so (eqb i x && eqb j y) (λ t.
+          false_from_ne_true (eqb i x && eqb j y) (λ t.
           let p = and_parts (eqb i x) (eqb j y) t in
           true≢false (sym v ∙ sym (ap₂ (live M l) (eqb-true i x p.0) (eqb-true j y p.1)) ∙ h))
 

@@ -1,15 +1,12 @@
 -- What the uncovered cells of a line gain by its fluxes and flux registers.
 use Rattle.std.proofs.Common.{◌≡◌, ℕ, zero, suc, pred, ◌<◌, Bool, true, false, not, ◌&&◌, ◌||◌, sym, refl, ap, ◌∙◌, ap₂, true≢false, arith}
+use Rattle.std.proofs.lemmas.Bool.{false_from_ne_true, and_left}
 use mathlib.Core.Bool.{false≢true}
 use Rattle.model.specs.Sums.{gate, sum}
 use Rattle.model.specs.Groups.{Amounts, Group, minus}
 use Rattle.model.specs.Step.{flux_register}
-use Rattle.model.proofs.Sums.{left_neutral, sum-cong, sum_same, sum-plus}
+use Rattle.model.proofs.Sums.{gate_none, left_neutral, sum-cong, sum_same, sum-plus}
 use Rattle.model.proofs.Groups.{neg_nought, neg_neg, cancel, by_parts, jump}
-
-pub not_so : (b : Bool) → (b ≡ true → ⊥) → b ≡ false
-not_so true h = absurd (h refl)
-not_so false h = refl
 
 -- which cells of a line are live and uncovered
 abbrev pub leaves : (live cov : ℕ → Bool) → ℕ → Bool
@@ -102,11 +99,7 @@ module _ {A : Type 0} (G : Amounts A) (laws : Group G) where
   high_boundary false false false false φ F a h₁ h₂ e = neg_nought G laws
 
   none_covered : (n : ℕ) (live cov : ℕ → Bool) → ((i : ℕ) → cov i ≡ true → live i ≡ true) → live n ≡ false → cov n ≡ false
-  none_covered n live cov h e = not_so (cov n) (λ t. false≢true (sym e ∙ h n t))
-
-  gone : (l c : Bool) (a : A) → l ≡ false → gate addition (l && not c) a ≡ nought
-  gone true c a h = absurd (true≢false h)
-  gone false c a h = refl
+  none_covered n live cov h e = false_from_ne_true (cov n) (λ t. false≢true (sym e ∙ h n t))
 
   pub line_balance : (n : ℕ) (live cov : ℕ → Bool) (φ F : ℕ → A) (low high : A) → IsLine G n live cov φ low high
       → sum addition n (λ i. gate addition (leaves live cov i) (minus G (moved G live cov φ F i) (moved G live cov φ F (suc i)))) ⊕ sum addition (pred n) (jump G cov F)
@@ -114,7 +107,7 @@ module _ {A : Type 0} (G : Amounts A) (laws : Group G) where
   unfolding flux_register
   line_balance zero live cov φ F low high d =
       left_neutral addition sums nought
-      ∙ sym (right_neutral _ ∙ ap₂ ◌⊕◌ (gone (live 0) (cov 0) low d.ends) (gone (live 0) (cov 0) high d.ends) ∙ left_neutral addition sums nought)
+      ∙ sym (right_neutral _ ∙ ap₂ ◌⊕◌ (gate_none addition sums _ low (and_left (live 0) _ d.ends)) (gate_none addition sums _ high (and_left (live 0) _ d.ends)) ∙ left_neutral addition sums nought)
   line_balance (suc k) live cov φ F low high d =
       ap (λ x. x ⊕ sum addition k (jump G cov F)) (by_parts G laws k (leaves live cov) (moved G live cov φ F))
       ∙ assoc _ _ _ ∙ ap₂ ◌⊕◌ ends_are between

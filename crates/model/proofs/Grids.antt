@@ -1,7 +1,7 @@
 -- Live cells lie inside the grid; the rows and columns of a level as lines.
 use Rattle.std.proofs.Common.{◌≡◌, ℕ, zero, suc, pred, ◌+◌, ◌*◌, ◌/◌, ◌^◌, ◌<◌, true, false, ◌&&◌, ltb, sym, refl, ap, ◌∙◌, subst, ap₂, lt_irrefl, zero-add, mul-one, mul_left_comm, arith}
 use native.Mathlib.Nat.{pow-succ'}
-use Rattle.std.proofs.lemmas.Bool.{and_parts, lt-ltb, ltb-true, cond-false}
+use Rattle.std.proofs.lemmas.Bool.{and_parts, lt-ltb, ltb-true, cond-false, false_from_ne_true}
 use Rattle.grid.specs.declared.side.Side.TheVariants.{West, East, South, North}
 use Rattle.grid.specs.Sizes.{level_width, level_height}
 use Rattle.grid.specs.Hierarchies.{Hierarchy, live}
@@ -11,7 +11,7 @@ use Rattle.model.specs.Groups.{Amounts}
 use Rattle.model.specs.Nesting.{Nested}
 use Rattle.model.specs.Interfaces.{Flux, Children}
 use Rattle.model.specs.Step.{Line, flux, row, column, fluxes}
-use Rattle.model.proofs.Faces.{not_so, IsLine}
+use Rattle.model.proofs.Faces.{IsLine}
 
 base : (W : ℕ) → W * 2 ^ 0 ≡ W
 base W = mul-one W
@@ -46,16 +46,16 @@ module _ (M : Hierarchy) (L : ℕ) (N : Nested M L) where
       (half_below x _ _ (doubled M.size.width l) p.0, half_below y _ _ (doubled M.size.height l) p.1)
 
   out_x : (l y : ℕ) → live M l (level_width M.size l) y ≡ false
-  out_x l y = not_so _ (λ t. lt_irrefl (level_width M.size l) (inside l (level_width M.size l) y t).0)
+  out_x l y = false_from_ne_true _ (λ t. lt_irrefl (level_width M.size l) (inside l (level_width M.size l) y t).0)
 
   out_y : (l x : ℕ) → live M l x (level_height M.size l) ≡ false
-  out_y l x = not_so _ (λ t. lt_irrefl (level_height M.size l) (inside l x (level_height M.size l) t).1)
+  out_y l x = false_from_ne_true _ (λ t. lt_irrefl (level_height M.size l) (inside l x (level_height M.size l) t).1)
 
   -- no level lies past the deepest
   pub bottom : (k : ℕ) → L ≡ suc k → (x y : ℕ) → live M (0 + L) x y ≡ false
   bottom k e x y =
       ap (λ j. live M j x y) (zero-add L ∙ e)
-      ∙ not_so (M.covered k (x / 2) (y / 2)) (λ t. lt_irrefl (suc k) (subst (λ n. suc k < n) e (N.deep k _ _ t)))
+      ∙ false_from_ne_true (M.covered k (x / 2) (y / 2)) (λ t. lt_irrefl (suc k) (subst (λ n. suc k < n) e (N.deep k _ _ t)))
 
   module _ {A : Type 0} (G : Amounts A) (F : Flux A) (split : A → Children A) (steps : ℕ) where
     open G use {addition, negation as neg}
@@ -64,7 +64,7 @@ module _ (M : Hierarchy) (L : ℕ) (N : Nested M L) where
         → flux G n (suc k) ≡ neg (gate addition (n.alive k) (n.high (n.content (pred n.size))))
     unfolding flux
     flux_high n k e =
-        cond-false _ _ _ (not_so (ltb (suc k) n.size) (λ t. lt_irrefl (suc k) (subst (λ s. suc k < s) e (ltb-true _ _ t))))
+        cond-false _ _ _ (false_from_ne_true (ltb (suc k) n.size) (λ t. lt_irrefl (suc k) (subst (λ s. suc k < s) e (ltb-true _ _ t))))
         ∙ ap (λ i. neg (gate addition (n.alive k) (n.high (n.content i)))) (sym (ap pred e))
 
     pub row_line : (l : ℕ) (cb b : Field A) (y : ℕ)

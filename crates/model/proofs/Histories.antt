@@ -29,9 +29,8 @@ use Rattle.model.proofs.Grids.{base_live, bottom}
 use Rattle.model.proofs.Writes.{write_same, write_other}
 use Rattle.model.proofs.Steps.{step_conserves}
 use Rattle.model.proofs.Restrictions.{step_restricts}
-use Rattle.model.proofs.Regrids.{regrid_conserves}
+use Rattle.model.proofs.Regrids.{regrid_conserves, kept as regridded_kept}
 use Rattle.model.proofs.Pours.{gate_nought, pour_total, pour_restricted, last}
-use Rattle.model.proofs.Rings.{both_of}
 use Rattle.model.proofs.Dead.{step_dead, pour_dead}
 use Rattle.model.proofs.Laid.{nested, covered_here, live_other, live_next, relaid_is, laid_again}
 
@@ -153,7 +152,7 @@ module _ {A : Type 0} (G : Amounts A) (laws : Group G) (size : Size) where
 
       clustered : Clustered (level_width s.size l) (level_height s.size l) (wanted M s.contents l flag) (properly_nested M l) bs
       unfolding boxes wanted
-      clustered = clu _ _ _ _ (λ x y hx hy t. (both_of t).1)
+      clustered = clu _ _ _ _ (λ x y hx hy t. (and_parts _ _ t).1)
 
       well' : WellLaid s.size s'.patches
       well' = laid_again s.size s.patches h.well s.contents l flag bs deep clustered few
@@ -209,11 +208,6 @@ module _ {A : Type 0} (G : Amounts A) (laws : Group G) (size : Size) where
       wanted_covered x y hx hy t =
           covered_here s.size s.patches h.well s.contents l flag bs deep clustered few x y ∙ clustered.every_wanted x y hx hy t
 
-      kept_content : (c c' : Bool) (old new : A) → c ≡ true → c' ≡ true → regridded addition c c' old new ≡ old
-      kept_content true true old new p q = refl
-      kept_content true false old new p q = absurd (false≢true q)
-      kept_content false c' old new p q = absurd (false≢true p)
-
       leaves_kept : (k x y : ℕ) → leaf M k x y ≡ true → leaf (hierarchy s') k x y ≡ true → s'.contents k x y ≡ s.contents k x y
       unfolding regrid
       leaves_kept k x y f g =
@@ -226,7 +220,7 @@ module _ {A : Type 0} (G : Amounts A) (laws : Group G) (size : Size) where
           next : leaf M (suc l) x y ≡ true → leaf (hierarchy s') (suc l) x y ≡ true → s'.contents (suc l) x y ≡ s.contents (suc l) x y
           next f g =
               ap (λ v. v x y) (write_same (suc l) _ s.contents)
-              ∙ kept_content (M.covered l (x / 2) (y / 2)) (held bs (x / 2) (y / 2)) _ _ (both_of f).0 (sym (live_as x y) ∙ (both_of g).0)
+              ∙ regridded_kept addition sums (M.covered l (x / 2) (y / 2)) (held bs (x / 2) (y / 2)) _ _ (and_parts _ _ f).0 (sym (live_as x y) ∙ (and_parts _ _ g).0)
 
   -- what a call keeps, by what it comes to
   record Kept (s : State A) (b : Ledger A) (c : Call A) (o : Outcome A (Reply A)) : Type 0 where

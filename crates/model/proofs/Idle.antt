@@ -1,6 +1,6 @@
 -- A level step on a level without live cells changes nothing and has no inward amount.
-use Rattle.std.proofs.Common.{◌≡◌, ℕ, zero, suc, pred, ◌/◌, Bool, true, false, not, ◌&&◌, refl, ap, ◌∙◌, ap₂, ⊎_elim, true≢false}
-use Rattle.std.proofs.lemmas.Bool.{cases_eq}
+use Rattle.std.proofs.Common.{◌≡◌, ℕ, zero, suc, pred, ◌/◌, false, refl, ap, ◌∙◌, ap₂, ⊎_elim}
+use Rattle.std.proofs.lemmas.Bool.{cases_eq, and_left}
 use Rattle.grid.specs.Sizes.{level_width, level_height}
 use Rattle.grid.specs.Hierarchies.{Hierarchy, live, leaf}
 use Rattle.model.specs.Fields.{Field, Fields}
@@ -11,7 +11,7 @@ use Rattle.model.specs.Interfaces.{Flux, Children}
 use Rattle.model.specs.Step.{level_step, boundary_inward, inward}
 use Rattle.model.specs.Balance.{IdleLevel}
 use Rattle.model.proofs.Sheets.{fields_eq}
-use Rattle.model.proofs.Sums.{sum-nought}
+use Rattle.model.proofs.Sums.{gate_none, sum-nought}
 use Rattle.model.proofs.Writes.{write_other}
 use Rattle.model.proofs.Dead.{not_covered, level_dead}
 
@@ -29,12 +29,8 @@ module _ {A : Type 0} (G : Amounts A) (laws : Group G) (M : Hierarchy) (L : ℕ)
   idle_next : (l : ℕ) → Idle l → Idle (suc l)
   idle_next l h x y = not_covered G M L N l (x / 2) (y / 2) (h (x / 2) (y / 2))
 
-  gone : (lv cv : Bool) (a : A) → lv ≡ false → gate addition (lv && not cv) a ≡ nought
-  gone true cv a e = absurd (true≢false e)
-  gone false cv a e = refl
-
   at : (l x y : ℕ) (a : A) → Idle l → gate addition (leaf M l x y) a ≡ nought
-  at l x y a h = gone (live M l x y) (M.covered l x y) a (h x y)
+  at l x y a h = gate_none addition sums _ a (and_left (live M l x y) _ (h x y))
 
   boundary_none : (l : ℕ) (b : Field A) → Idle l → boundary_inward G M F split steps l b ≡ nought
   unfolding boundary_inward

@@ -4,7 +4,7 @@ use mathlib.Core.Bool.{false≢true}
 use native.Mathlib.Nat.{suc_inj}
 use native.Mathlib.Decide.{ℕ_discrete, dec_lt}
 use lib.Dec.{eqb-suc-suc}
-use Rattle.std.proofs.lemmas.Bool.{cond-true, cond-false, eq-eqb, ne_eqb}
+use Rattle.std.proofs.lemmas.Bool.{cond-true, cond-false, eq-eqb, ne_eqb, and_from, and_parts, or_left, or_right}
 use Rattle.grid.specs.declared.patch.Patch.{Patch}
 use Rattle.grid.specs.declared.size.Size.{Size}
 use Rattle.grid.specs.Sizes.{level_width, level_height}
@@ -17,7 +17,7 @@ use Rattle.model.specs.Rings.{ring_some}
 use Rattle.model.specs.Wanted.{Flagging, Clustered, buffer, nesting, properly_nested, wanted}
 use Rattle.model.specs.Regrid.{with_patches, relaid}
 use Rattle.model.proofs.Grids.{width_suc, height_suc}
-use Rattle.model.proofs.Rings.{both_of, and_so, or_first, or_second, touching_so, touching_sym, ring_some_so, ring_every_so, ring_every_of, child_some_so}
+use Rattle.model.proofs.Rings.{touching_so, touching_sym, ring_some_so, ring_every_so, ring_every_of, child_some_so}
 
 -- a held cell lies inside the grid that the patches lie in
 held_inside : (w h : ℕ) (ps : List Patch) (x y : ℕ) → AllInside w h ps → held ps x y ≡ true → (x < w) × (y < h)
@@ -59,7 +59,7 @@ module _ (s : Size) (patches : Patches) (wl : WellLaid s patches) where
   covered_nested : (l x y : ℕ) → M.covered l x y ≡ true → properly_nested M l x y ≡ true
   unfolding properly_nested
   covered_nested l x y c =
-      and_so (wl.covered_live l x y c) (ring_every_so _ _ (live M l) x y (λ X Y hx hy t. wl.rings_live l x y X Y c hx hy t))
+      and_from _ _ (wl.covered_live l x y c) (ring_every_so _ _ (live M l) x y (λ X Y hx hy t. wl.rings_live l x y X Y c hx hy t))
 
   module _ {A : Type 0} (u : Fields A) (l : ℕ) (flag : Flagging A) (boxes : List Patch) (deep : suc l < s.levels)
       (cl : Clustered (level_width s l) (level_height s l) (wanted M u l flag) (properly_nested M l) boxes) (few : length boxes ≤ 128) where
@@ -121,8 +121,8 @@ module _ (s : Size) (patches : Patches) (wl : WellLaid s patches) where
         let i = half_inside X Y hx hy in
         live_next X Y
         ∙ cl.every_wanted (X / 2) (Y / 2) i.0 i.1
-        (and_so
-        (or_second (buffer M u l flag (X / 2) (Y / 2))
+        (and_from _ _
+        (or_right (buffer M u l flag (X / 2) (Y / 2)) _
         (child_some_so (λ a b. M.covered (suc l) a b || ring_some (level_width s (suc l)) (level_height s (suc l)) (M.covered (suc l)) a b) X Y n))
         (covered_nested l (X / 2) (Y / 2) v))
 
@@ -132,7 +132,7 @@ module _ (s : Size) (patches : Patches) (wl : WellLaid s patches) where
         elim (ℕ_discrete k l) [
           | yes e ↦ subst (λ j. live M' j x y ≡ true) (sym e)
               (live_other l x y off
-              ∙ (both_of (cl.only_nested x y (sym (covered_here x y) ∙ subst (λ j. M'.covered j x y ≡ true) e c))).0)
+              ∙ (and_parts _ _ (cl.only_nested x y (sym (covered_here x y) ∙ subst (λ j. M'.covered j x y ≡ true) e c))).0)
           | no h ↦ elim (ℕ_discrete k (suc l)) [
             | yes e ↦ subst (λ j. live M' j x y ≡ true) (sym e) (next x y (subst (λ j. M.covered j x y ≡ true) e (sym (covered_other k x y h) ∙ c)))
             | no g ↦ live_other k x y g ∙ wl.covered_live k x y (sym (covered_other k x y h) ∙ c)
@@ -140,7 +140,7 @@ module _ (s : Size) (patches : Patches) (wl : WellLaid s patches) where
         ]
       where
         next : (x y : ℕ) → M.covered (suc l) x y ≡ true → live M' (suc l) x y ≡ true
-        next x y c = let i = covered_inside (suc l) x y c in kept_live x y i.0 i.1 (wl.covered_live (suc l) x y c) (or_first _ c)
+        next x y c = let i = covered_inside (suc l) x y c in kept_live x y i.0 i.1 (wl.covered_live (suc l) x y c) (or_left _ _ c)
 
     rings_live' : RingsLive M'
     unfolding properly_nested
@@ -149,7 +149,7 @@ module _ (s : Size) (patches : Patches) (wl : WellLaid s patches) where
           | yes e ↦ subst (λ j. live M' j X Y ≡ true) (sym e)
               (live_other l X Y off
               ∙ ring_every_of (level_width s l) (level_height s l) (live M l) x y
-              (both_of (cl.only_nested x y (sym (covered_here x y) ∙ subst (λ j. M'.covered j x y ≡ true) e c))).1
+              (and_parts _ _ (cl.only_nested x y (sym (covered_here x y) ∙ subst (λ j. M'.covered j x y ≡ true) e c))).1
               X Y (subst (λ j. X < s.width * 2 ^ j) e hx) (subst (λ j. Y < s.height * 2 ^ j) e hy) t)
           | no h ↦ elim (ℕ_discrete k (suc l)) [
             | yes e ↦ subst (λ j. live M' j X Y ≡ true) (sym e)
@@ -163,7 +163,7 @@ module _ (s : Size) (patches : Patches) (wl : WellLaid s patches) where
         next c hx hy =
             let i = covered_inside (suc l) x y c in
             kept_live X Y hx hy (wl.rings_live (suc l) x y X Y c hx hy t)
-            (or_second (M.covered (suc l) X Y)
+            (or_right (M.covered (suc l) X Y) _
             (ring_some_so (level_width s (suc l)) (level_height s (suc l)) (M.covered (suc l)) X Y x y i.0 i.1 (touching_sym x y X Y t) c))
 
     -- what holds of the boxes and of the old patches holds of the new

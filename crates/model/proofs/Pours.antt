@@ -2,7 +2,7 @@
 use Rattle.std.proofs.Common.{◌≡◌, ℕ, zero, suc, ◌+◌, ◌*◌, ◌<◌, ◌≤◌, Bool, true, false, cond, not, ◌&&◌, eqb, sym, refl, ap, ◌∙◌, subst, ap₂, inl, inr, true≢false, lt_trans, le_refl, le_of_suc-le-suc, add-zero, le_of_lt, lt_irrefl, add-suc, lt-suc_self, suc-add, eq-or-lt_of_le, arith}
 use mathlib.Core.Bool.{false≢true}
 use native.Mathlib.Decide.{ℕ_discrete}
-use Rattle.std.proofs.lemmas.Bool.{cond_both, eq-eqb, ne_eqb, eqb-true}
+use Rattle.std.proofs.lemmas.Bool.{cond_both, eq-eqb, ne_eqb, eqb-true, and_right}
 use Rattle.amount.specs.Additions.{Addition, Sums}
 use Rattle.grid.specs.Sizes.{level_width, level_height}
 use Rattle.grid.specs.Hierarchies.{Hierarchy, live, leaf}
@@ -12,7 +12,7 @@ use Rattle.model.specs.Total.{level_total, composite_total}
 use Rattle.model.specs.Pour.{added, pour}
 use Rattle.model.specs.Nesting.{Nested}
 use Rattle.model.specs.Step.{children_sum}
-use Rattle.model.proofs.Sums.{left_neutral, pairs, sum_same, sum-plus, sum-nought}
+use Rattle.model.proofs.Sums.{gate_none, left_neutral, pairs, sum_same, sum-plus, sum-nought}
 use Rattle.model.proofs.Doubles.{half_even, gate-plus, area_same}
 use Rattle.model.proofs.Grids.{inside}
 use Rattle.model.proofs.Writes.{write_same, write_other, write_above, total_above}
@@ -40,19 +40,15 @@ module _ {A : Type 0} (G : Addition A) (laws : Sums G) where
   gate_nought true = refl
   gate_nought false = refl
 
-  none_of : (b : Bool) (a : A) → b ≡ false → gate G b a ≡ nought
-  none_of true a h = absurd (true≢false h)
-  none_of false a h = refl
-
   -- one term of a sum
   sum_one : (n x : ℕ) (f : ℕ → A) → x < n → sum G n (λ i. gate G (eqb i x) (f i)) ≡ f x
   sum_one zero x f h = absurd (omega arith)
   sum_one (suc n) x f h =
       elim (eq-or-lt_of_le (le_of_suc-le-suc h)) [
-        | inl e ↦ ap₂ ◌⊕◌ (sum-nought G laws n _ (λ i g. none_of _ _ (ne_eqb i x (λ e'. lt_irrefl x (omega arith)))))
+        | inl e ↦ ap₂ ◌⊕◌ (sum-nought G laws n _ (λ i g. gate_none G laws _ _ (ne_eqb i x (λ e'. lt_irrefl x (omega arith)))))
             (ap (λ b. gate G b (f n)) (ap (λ j. eqb n j) e ∙ eq-eqb n n refl))
             ∙ left_neutral G laws (f n) ∙ ap f (sym e)
-        | inr g ↦ ap₂ ◌⊕◌ (sum_one n x f g) (none_of _ _ (ne_eqb n x (λ e. lt_irrefl x (omega arith)))) ∙ right_neutral (f x)
+        | inr g ↦ ap₂ ◌⊕◌ (sum_one n x f g) (gate_none G laws _ _ (ne_eqb n x (λ e. lt_irrefl x (omega arith)))) ∙ right_neutral (f x)
       ]
 
   sum-gate : (n : ℕ) (b : Bool) (f : ℕ → A) → sum G n (λ i. gate G b (f i)) ≡ gate G b (sum G n f)
@@ -101,13 +97,9 @@ module _ {A : Type 0} (G : Addition A) (laws : Sums G) where
   children_sum-corner x y i j a =
       four_same G laws (ap₂ (λ p q. gate G (p && q) a) (eqb_twice i x) (eqb_twice j y))
       (ap (λ p. gate G (p && eqb (2 * j) (2 * y)) a) (eqb_odd i x))
-      (ap₂ (λ p q. gate G (p && q) a) (eqb_twice i x) (eqb_odd j y) ∙ none_of _ a (and_false (eqb i x)))
+      (ap₂ (λ p q. gate G (p && q) a) (eqb_twice i x) (eqb_odd j y) ∙ gate_none G laws _ a (and_right (eqb i x) false refl))
       (ap (λ p. gate G (p && eqb (suc (2 * j)) (2 * y)) a) (eqb_odd i x))
       ∙ right_neutral _ ∙ right_neutral _ ∙ right_neutral _
-    where
-      and_false : (b : Bool) → (b && false) ≡ false
-      and_false true = refl
-      and_false false = refl
 
   children_sum-added : (x y : ℕ) (a : A) (v : Field A) (i j : ℕ)
       → children_sum G (added G (2 * x) (2 * y) a v) i j ≡ children_sum G v i j ⊕ gate G (eqb i x && eqb j y) a
@@ -133,11 +125,7 @@ module _ {A : Type 0} (G : Addition A) (laws : Sums G) where
       (λ _. pour_below M d (suc l) (2 * x) (2 * y) a _ l (lt-suc_self l) ∙ write_same l _ u) (λ _. write_same l _ u)
 
   leaf_not : (M : Hierarchy) (l x y : ℕ) → M.covered l x y ≡ true → leaf M l x y ≡ false
-  leaf_not M l x y c = ap (λ b. live M l x y && not b) c ∙ never (live M l x y)
-    where
-      never : (b : Bool) → (b && false) ≡ false
-      never true = refl
-      never false = refl
+  leaf_not M l x y c = ap (λ b. live M l x y && not b) c ∙ and_right (live M l x y) false refl
 
   leaf_so : (M : Hierarchy) (l x y : ℕ) → live M l x y ≡ true → M.covered l x y ≡ false → leaf M l x y ≡ true
   leaf_so M l x y v c = ap₂ (λ a b. a && not b) v c
@@ -161,7 +149,7 @@ module _ {A : Type 0} (G : Addition A) (laws : Sums G) where
         (λ c.
         ap₂ ◌⊕◌
         (ap (level_total G M l) (pour_below M d (suc l) (2 * x) (2 * y) a u' l (lt-suc_self l) ∙ write_same l _ u) ∙ here
-        ∙ ap₂ ◌⊕◌ refl (none_of _ a (leaf_not M l x y c)) ∙ right_neutral _)
+        ∙ ap₂ ◌⊕◌ refl (gate_none G laws _ a (leaf_not M l x y c)) ∙ right_neutral _)
         (pour_total d (suc l) (2 * x) (2 * y) a u' (at_corner M l x y c)
         (λ X Y. ap (λ k. live M k X Y) (suc-add l d ∙ sym (add-suc l d)) ∙ h X Y)
         ∙ ap₂ ◌⊕◌ finer refl)
@@ -189,7 +177,7 @@ module _ {A : Type 0} (G : Addition A) (laws : Sums G) where
         → write l (added G x y a (u l)) u l i j ≡ children_sum G (write l (added G x y a (u l)) u (suc l)) i j
     flat_here l x y a u i j c t e =
         ap (λ f. f i j) (write_same l _ u) ∙ added_is x y a (u l) i j
-        ∙ ap₂ ◌⊕◌ e (none_of _ a (elsewhere (eqb i x) (eqb j y) (eqb→so i x) (eqb→so j y)))
+        ∙ ap₂ ◌⊕◌ e (gate_none G laws _ a (elsewhere (eqb i x) (eqb j y) (eqb→so i x) (eqb→so j y)))
         ∙ right_neutral _ ∙ ap (λ f. children_sum G f i j) (sym (write_above l (suc l) _ u (lt-suc_self l)))
       where
         eqb→so : (m n : ℕ) → eqb m n ≡ true → m ≡ n

@@ -104,7 +104,7 @@ module _ {A : Type 0} (G : Addition A) (laws : Sums G) where
   kept_or_split true u w s x y avg spl = avg refl
   kept_or_split false u w s x y avg spl = sym spl
 
-  kept : (c c' : Bool) (w s : A) → c ≡ true → c' ≡ true → regridded G c c' w s ≡ w
+  pub kept : (c c' : Bool) (w s : A) → c ≡ true → c' ≡ true → regridded G c c' w s ≡ w
   kept true true w s h₁ h₂ = refl
   kept true false w s h₁ h₂ = absurd (false≢true h₂)
   kept false c' w s h₁ h₂ = absurd (false≢true h₁)

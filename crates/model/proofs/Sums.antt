@@ -1,8 +1,8 @@
 -- Sums over ranges. Assumes nothing.
-use Rattle.std.proofs.Common.{◌≡◌, ℕ, zero, suc, ◌<◌, sym, refl, ap, ◌∙◌, ap₂, lt-suc_self}
+use Rattle.std.proofs.Common.{◌≡◌, ℕ, zero, suc, ◌<◌, Bool, true, false, true≢false, sym, refl, ap, ◌∙◌, ap₂, lt-suc_self}
 use native.Mathlib.Nat.{le_step}
 use Rattle.amount.specs.Additions.{Addition, Sums}
-use Rattle.model.specs.Sums.{sum}
+use Rattle.model.specs.Sums.{gate, sum}
 
 module _ {A : Type 0} (G : Addition A) (laws : Sums G) where
   open G use {◌⊕◌}
@@ -10,6 +10,11 @@ module _ {A : Type 0} (G : Addition A) (laws : Sums G) where
   infixl 60 ◌⊕◌
   nought : A
   nought = G.zero
+
+  -- nothing passes a closed gate
+  pub gate_none : (b : Bool) (a : A) → b ≡ false → gate G b a ≡ G.zero
+  gate_none true a h = absurd (true≢false h)
+  gate_none false a h = refl
 
   pub left_neutral : (a : A) → G.zero ⊕ a ≡ a
   left_neutral a = laws.comm G.zero a ∙ laws.neutral a

@@ -18,3 +18,4 @@ pub mod History
 pub mod Ledger
 pub mod Clusterings
 pub mod Examples
+pub mod Sides

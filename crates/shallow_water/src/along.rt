@@ -1,7 +1,7 @@
-// Water along a direction, or its fluxes: volume, the momentum along the direction and the other one.
-#[derive(Clone, Copy)]
-pub struct Along {
-    pub v: i64,
-    pub n: i64,
-    pub t: i64,
+// What is told of water along a direction: of its volume, of its momentum along the direction and of the other one.
+#[derive(Clone, Copy, Default, PartialEq, Eq, Debug)]
+pub(crate) struct Along<T> {
+    pub v: T,
+    pub n: T,
+    pub t: T,
 }

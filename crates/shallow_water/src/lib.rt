@@ -3,11 +3,11 @@
 
 mod along;
 mod crossings;
-mod directed;
-mod flux;
-mod fluxes;
+mod examples;
+mod face;
+mod part;
+mod seen;
 mod shallow_water;
-mod whole;
 
-pub use flux::shallow_water_examples;
+pub use examples::shallow_water_examples;
 pub use shallow_water::ShallowWater;

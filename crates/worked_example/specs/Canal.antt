@@ -22,7 +22,7 @@ abbrev pub fed : List Volume
 fed = volume_of (pos 40) ∷ volume_of (pos 10) ∷ volume_of (pos 2) ∷ []
 
 abbrev pub eastward : Flux Volume
-eastward = feed volumes fed (advection (record { cx = pos 64; cy = pos 0; cxrange = lit≤ tt; cyrange = lit≤ tt }))
+eastward = feed volumes fed (advection (record { cx = record { parts = pos 64; range = lit≤ tt }; cy = record { parts = pos 0; range = lit≤ tt } }))
 
 abbrev pub even : Volume → Children Volume
 even = shared volume_share

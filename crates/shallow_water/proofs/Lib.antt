@@ -1,4 +1,0 @@
-pub mod Floors
-pub mod Eighths
-pub mod Pressures
-pub mod Parts
