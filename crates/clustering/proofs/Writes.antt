@@ -1,88 +1,73 @@
 -- Boxes that are written one after another into lent patches.
-use Rattle.std.proofs.Common.{◌≡◌, ℕ, suc, ◌+◌, ◌-◌, ◌<◌, ◌≤◌, true, List, [], ◌∷◌, ◌++◌, length, take, drop, is_err, Ok, Err, Result, sym, ap, ◌∙◌, subst, arith}
+use Rattle.std.proofs.Common.{◌≡◌, ℕ, ◌<◌, ◌≤◌, true, List, [], ◌++◌, length, take, drop, is_err, Ok, Err, Result, refl, sym, ap, ◌∙◌, subst, arith}
 use mathlib.Core.Bool.{false≢true}
-use Rattle.std.proofs.lemmas.List.{append_assoc, length-append, length-take-le, length-drop, take-append-drop, take_at, drop_at, drop-drop, set_split}
+use Rattle.std.proofs.lemmas.List.{append_assoc, length-append}
+use Rattle.std.proofs.lemmas.Slice.{drop-append-drop}
+use Rattle.std.proofs.lemmas.Grind.{common_steps}
 use Rattle.grid.specs.declared.patch.Patch.{Patch}
 use Rattle.interfaces.specs.declared.clustering.TooMany.{TooMany}
 use Rattle.interfaces.specs.Answers.{Clustered}
-use Rattle.clustering.specs.Rows.{Pushed, Written}
-
--- nothing is written
-pub nothing : (count : ℕ) (now : List Patch) → count ≤ length now → Written (Ok count) count now now []
-nothing count now h = (omega arith, h, sym (take-append-drop count now))
-
--- one box, as the code made it
-pub pushed : (r : Result ℕ TooMany) (count : ℕ) (now after : List Patch) {made : Patch} (box : Patch) → made ≡ box
-    → Pushed r count now after made → Written r count now after (box ∷ [])
-pushed (Ok n) count now after {made} box m p =
-    let e : n ≡ suc count = omega arith in
-    (p.0, omega arith, rw e (p.2 ∙ set_split now count made p.1 ∙ ap (λ b. take count now ++ (b ∷ drop (suc count) now)) m))
-pushed (Err e) count now after box m p = omega arith
+use Rattle.clustering.specs.declared.boxes.Boxes.{Boxes}
+use Rattle.clustering.specs.Rows.{Written, Wrote}
 
 -- Once boxes are written, the front ends with them, and behind them and in length the patches are as they were.
-behind : (count n m : ℕ) (now next boxes : List Patch) → count ≤ length now → Written (Ok n) count now next boxes → n ≤ m
+behind : (count n m : ℕ) (now next boxes : List Patch) → count ≤ length now → Written (Ok tt) count n now next boxes → n ≤ m
     → (take n next ≡ take count now ++ boxes) × (drop m next ≡ drop m now) × (length next ≡ length now)
 behind count n m now next boxes h w l =
-    let front : List Patch = take count now ++ boxes in
-    let whole : next ≡ front ++ drop n now = w.2 ∙ sym (append_assoc (take count now) boxes (drop n now)) in
-    let long : length front ≡ n = length-append (take count now) boxes ∙ (omega (arith, length-take-le count now h)) in
-    let tail : drop n next ≡ drop n now = ap (drop n) whole ∙ drop_at front (drop n now) n long in
-    let e : n + (m - n) ≡ m = omega arith in (
-      ap (take n) whole ∙ take_at front (drop n now) n long,
-      subst (λ (k : ℕ). drop k next ≡ drop k now) e (sym (drop-drop (m - n) n next) ∙ ap (drop (m - n)) tail ∙ drop-drop (m - n) n now),
-      ap length whole ∙ length-append front (drop n now) ∙ (omega (arith, length-drop n now)),
+    let long : length (take count now ++ boxes) ≡ n = grind (arith, common_steps) in (
+      grind (arith, common_steps),
+      ap (drop m) (w.2 ∙ sym (append_assoc (take count now) boxes (drop n now))) ∙ drop-append-drop n now (take count now ++ boxes) m l long,
+      grind (arith, common_steps),
     )
 
 -- some boxes and then others
-joined : (r : Result ℕ TooMany) (count n : ℕ) (now next after boxes rest : List Patch) → count ≤ length now
-    → Written (Ok n) count now next boxes → Written r n next after rest → Written r count now after (boxes ++ rest)
-joined (Ok m) count n now next after boxes rest h w v =
-    let b = behind count n m now next boxes h w (omega arith) in (
-      omega (arith, length-append boxes rest),
-      omega (arith, b.2),
-      v.2 ∙ ap (λ f. f ++ (rest ++ drop m next)) b.0 ∙ ap (λ t. (take count now ++ boxes) ++ (rest ++ t)) b.1
-          ∙ simp append_assoc,
-    )
-joined (Err e) count n now next after boxes rest h w v =
-    omega (arith, length-append boxes rest, (behind count n n now next boxes h w (omega arith)).2)
+joined : (r : Result (Unit {0}) TooMany) (now next after : Boxes) (boxes rest : List Patch) → now.count ≤ length now.patches.now
+    → Wrote (Ok tt) now next boxes → Wrote r next after rest → Wrote r now after (boxes ++ rest)
+joined (Ok done) now next after boxes rest h w v =
+    let b = behind now.count next.count after.count now.patches.now next.patches.now boxes h w.written (omega arith) in record {
+      lent = v.lent ∙ w.lent;
+      written = (
+        omega (arith, length-append boxes rest),
+        omega (arith, b.2),
+        v.written.2 ∙ ap (λ f. f ++ (rest ++ drop after.count next.patches.now)) b.0
+            ∙ ap (λ t. (take now.count now.patches.now ++ boxes) ++ (rest ++ t)) b.1 ∙ simp append_assoc,
+      );
+    }
+joined (Err e) now next after boxes rest h w v = record {
+  lent = v.lent ∙ w.lent;
+  written = omega (arith, v.written, w.written, length-append boxes rest, (behind now.count next.count next.count now.patches.now next.patches.now boxes h w.written (omega arith)).2);
+}
 
 -- Of all boxes the rest is left to write: whatever writing the rest from here on answers is the answer for all from the start.
-pub record UnderWay (start : ℕ) (before all : List Patch) (count : ℕ) (now rest : List Patch) : Type 0 where
-  pub room : count ≤ length now
-  pub ends : (r : Result ℕ TooMany) (after : List Patch) → Written r count now after rest → Written r start before after all
+pub record UnderWay (start : Boxes) (all : List Patch) (now : Boxes) (rest : List Patch) : Type 0 where
+  pub room : now.count ≤ length now.patches.now
+  pub ends : (r : Result (Unit {0}) TooMany) (after : Boxes) → Wrote r now after rest → Wrote r start after all
 
-module _ {start : ℕ} {before all : List Patch} where
-  pub begun : start ≤ length before → UnderWay start before all start before all
-  begun h = record { room = h; ends = λ r after w. w }
+module _ {start now : Boxes} {all rest : List Patch} (u : UnderWay start all now rest) where
+  pub left : {other : List Patch} → rest ≡ other → UnderWay start all now other
+  left e = subst (λ (l : List Patch). UnderWay start all now l) e u
 
-  pub ended : {count : ℕ} {now rest : List Patch} → UnderWay start before all count now rest → rest ≡ []
-      → Written (Ok count) start before now all
-  ended {count} {now} u e = u.ends (Ok count) now (subst (λ (l : List Patch). Written (Ok count) count now now l) (sym e) (nothing count now u.room))
+  pub ended : rest ≡ [] → Wrote (Ok tt) start now all
+  ended e = (left e).ends (Ok tt) now (let room = u.room in record { lent = refl; written = grind (arith, common_steps) })
 
-  module _ {count : ℕ} {now rest : List Patch} (u : UnderWay start before all count now rest) where
-    pub left : {other : List Patch} → rest ≡ other → UnderWay start before all count now other
-    left e = subst (λ (l : List Patch). UnderWay start before all count now l) e u
+  pub further : {next : Boxes} (boxes other : List Patch) → rest ≡ boxes ++ other → Wrote (Ok tt) now next boxes → UnderWay start all next other
+  further {next} boxes other e w =
+      let b = behind now.count next.count next.count now.patches.now next.patches.now boxes u.room w.written (omega arith) in
+      record {
+        room = omega (arith, b.2, w.written.1);
+        ends = λ r after v. (left e).ends r after (joined r now next after boxes other u.room w v);
+      }
 
-    pub further : {n : ℕ} {next : List Patch} (boxes other : List Patch) → rest ≡ boxes ++ other → Written (Ok n) count now next boxes
-        → UnderWay start before all n next other
-    further {n} {next} boxes other e w =
-        let b = behind count n n now next boxes u.room w (omega arith) in
-        record {
-          room = omega (arith, b.2, w.1);
-          ends = λ r after v. (left e).ends r after (joined r count n now next after boxes other u.room w v);
-        }
-
-    pub one_further : {n : ℕ} {next : List Patch} {made : Patch} (box : Patch) (other : List Patch) → rest ≡ box ∷ other → made ≡ box
-        → Pushed (Ok n) count now next made → UnderWay start before all n next other
-    one_further {n} {next} box other e m p = further (box ∷ []) other e (pushed (Ok n) count now next box m p)
-
-    pub overfull : (r : Result ℕ TooMany) (after : List Patch) → is_err r ≡ true → length now < count + length rest
-        → Written r start before after all
-    overfull (Ok n) after e l = absurd (false≢true e)
-    overfull (Err t) after e l = u.ends (Err t) after l
+  pub overfull : {t : TooMany} {after : Boxes} (boxes other : List Patch) → rest ≡ boxes ++ other → Wrote (Err t) now after boxes
+      → (r : Result (Unit {0}) TooMany) → is_err r ≡ true → Wrote r start after all
+  overfull boxes other e w (Ok done) err = absurd (false≢true err)
+  overfull {after = after} boxes other e w (Err t) err =
+      u.ends (Err t) after (record { lent = w.lent; written = omega (arith, w.written, ap length e ∙ length-append boxes other) })
 
 -- written from the first patch on, the boxes are the answer of a clustering
-pub clustered : (r : Result ℕ TooMany) (before after boxes : List Patch) → Written r 0 before after boxes → Clustered r before after boxes
-clustered (Ok n) before after boxes w =
-    let e : n ≡ length boxes = omega arith in (e, omega arith, subst (λ (k : ℕ). after ≡ boxes ++ drop k before) e w.2)
-clustered (Err e) before after boxes w = omega arith
+pub all_written : (n : ℕ) (before after boxes : List Patch) → Written (Ok tt) 0 n before after boxes → Clustered (Ok n) before after boxes
+all_written n before after boxes w = grind (arith, common_steps)
+
+pub too_many : (r : Result ℕ TooMany) (before after boxes : List Patch) → is_err r ≡ true → length before < length boxes → Clustered r before after boxes
+too_many (Ok n) before after boxes err l = absurd (false≢true err)
+too_many (Err e) before after boxes err l = l

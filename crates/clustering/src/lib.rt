@@ -1,6 +1,7 @@
 // Clusterings: patches that cover the wanted cells of a level.
 #![tactic(auto)]
 
+mod boxes;
 mod row_runs;
 mod rows;
 mod single_cells;

@@ -1,68 +1,59 @@
 // Each whole run of wanted cells as a patch.
-ghost use Rattle.std.specs.Prelude.{◌+◌, ◌^◌, ◌<◌, ◌≤◌, length};
+ghost use Rattle.std.specs.Prelude.{◌≡◌, ◌+◌, ◌^◌, ◌<◌, ◌≤◌, length};
 ghost use Rattle.model.specs.Clusterings.{runs as whole_runs};
-ghost use Rattle.clustering.specs.Rows.{runs_in, run_before, Written};
+ghost use Rattle.clustering.specs.Rows.{runs_in, run_before, Wrote};
 ghost use Rattle.model.proofs.Clusterings.{clusterings_lawful};
 
-use crate::rows::{is_wanted, push, stretch};
+use crate::boxes::Boxes;
+use crate::rows::{RowBoxes, cluster_rows, stretch, wanted_row};
 use grid::Patch;
 use interfaces::{CellMaps, Clustering, TooMany};
 
 // The clustering that gives each whole west-east run of wanted cells a patch, row by row from the south-west.
-#[derive(Clone, Copy)]
+#[derive(Clone, Copy, PartialEq, Eq, Debug)]
 pub struct RowRuns;
 
-// Writes the run that ends before column x, if there is one, after the first patches, and answers how many patches there are then.
-// The run is given by its first column.
-fn push_run(
-    patches: &mut [Patch],
-    count: usize,
-    first: Option<usize>,
-    x: usize,
-    y: usize,
-) -> Result<usize, TooMany>
-    requires { (count ≤ length patches.old) × (y + 1 < 2 ^ 64) }
-    ensures { Written result count patches.old patches.new (run_before x y first) }
+// Writes the run that ends before column x, if there is one, after the other boxes. The run is given by its first column.
+fn push_run(boxes: &mut Boxes<'_>, first: Option<usize>, x: usize, y: usize) -> Result<(), TooMany>
+    requires { (boxes.old.count ≤ length boxes.old.patches.now) × (y + 1 < 2 ^ 64) }
+    ensures { Wrote result boxes.old boxes.new (run_before x y first) }
 {
     match first {
-        Some(x0) => push(patches, count, stretch(x0, x, y)),
-        None => Ok(count),
+        Some(x0) => boxes.push(stretch(x0, x, y)),
+        None => Ok(()),
     }
 }
 
-// Writes the runs of a row after the first patches, and answers how many patches there are with them.
-fn push_runs(
-    cells: &CellMaps<'_>,
-    y: usize,
-    patches: &mut [Patch],
-    mut count: usize,
-) -> Result<usize, TooMany>
-    requires { (y < cells.now.height) × (count ≤ length patches.old) }
-    ensures { Written result count patches.old patches.new (runs_in cells.now y) }
-{
-    // the first column of the run under way
-    let mut first = None;
-    for x in 0..cells.width {
-        if is_wanted(cells, x, y) {
-            first = first.or(Some(x));
-        } else {
-            count = push_run(patches, count, first, x, y)?;
-            first = None;
+impl RowBoxes for RowRuns {
+    ghost boxes_in = { runs_in };
+
+    fn push_row(
+        &self,
+        cells: &CellMaps<'_>,
+        y: usize,
+        boxes: &mut Boxes<'_>,
+    ) -> Result<(), TooMany> {
+        // the first column of the run under way
+        let mut first = None;
+        for (x, &wanted) in wanted_row(cells, y).iter().enumerate() {
+            if wanted != 0 {
+                first = first.or(Some(x));
+            } else {
+                push_run(boxes, first, x, y)?;
+                first = None;
+            }
         }
+        push_run(boxes, first, cells.width, y)
     }
-    push_run(patches, count, first, cells.width, y)
 }
 
+// In one line for each: an impl of another crate's trait for every `RowBoxes` is not allowed.
 impl Clustering for RowRuns {
     ghost boxes = { λ _. whole_runs };
 
     ghost lawful = { λ s. clusterings_lawful.1 };
 
     fn cluster(&self, cells: &CellMaps<'_>, patches: &mut [Patch]) -> Result<usize, TooMany> {
-        let mut count = 0;
-        for y in 0..cells.height {
-            count = push_runs(cells, y, patches, count)?;
-        }
-        Ok(count)
+        cluster_rows(self, cells, patches)
     }
 }

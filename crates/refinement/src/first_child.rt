@@ -6,7 +6,7 @@ use amount::Amount;
 use interfaces::Split;
 
 // The split that gives all to the south-west child.
-#[derive(Clone, Copy)]
+#[derive(Clone, Copy, PartialEq, Eq, Debug)]
 pub struct FirstChild;
 
 impl<V: Amount> Split<V> for FirstChild {

@@ -7,7 +7,7 @@ use grid::Place;
 use interfaces::{Flagging, Neighbours};
 
 // The flagging of every cell from a base column on.
-#[derive(Clone, Copy)]
+#[derive(Clone, Copy, PartialEq, Eq, Debug)]
 pub struct FromColumn {
     pub column: usize,
 }

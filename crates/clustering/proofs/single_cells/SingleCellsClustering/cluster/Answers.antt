@@ -1,17 +1,6 @@
-use Rattle.std.proofs.Common.{arith}
-use Rattle.clustering.specs.Rows.{cells_in}
-use Rattle.clustering.proofs.Steps.{cells_begun, row_further, row_overfull, rows_ended}
+use Rattle.model.specs.Clusterings.{cells}
 use Rattle.clustering.proofs.single_cells.SingleCellsClustering.cluster.Goals as goal
 
-pub loop-y-init : goal.loop-y-init
-loop-y-init c = cells_begun c.args.cells.now c.args.patches.now
-
-pub loop-y-preserved : goal.loop-y-preserved
-loop-y-preserved c = row_further (cells_in c.args.cells.now) c.args.cells.now.height c.loop-y.y c.loop-y.invariant c.loop-y-test.true c.in_ok-count.ensures
-
-pub returns-in_err-count : goal.returns-in_err-count
-returns-in_err-count c =
-    row_overfull (cells_in c.args.cells.now) c.args.cells.now.height c.loop-y.y c.loop-y.invariant c.from_residual.result _ c.from_residual.ensures.0 c.loop-y-test.true c.in_err-count.ensures
-
 pub returns : goal.returns
-returns c = rows_ended (cells_in c.args.cells.now) c.args.cells.now.height c.loop-y.y c.loop-y.invariant (omega arith)
+unfolding cells
+returns c = c.cluster_rows.ensures

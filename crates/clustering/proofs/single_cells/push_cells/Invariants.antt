@@ -1,8 +1,0 @@
-use Rattle.clustering.specs.Rows.{cells_in}
-use Rattle.clustering.proofs.Writes.{UnderWay}
-use Rattle.clustering.proofs.Steps.{cells_from}
-use Rattle.clustering.proofs.single_cells.push_cells.Given as goal
-
-abbrev pub invariant-loop-x : goal.invariant-loop-x
-invariant-loop-x l =
-    UnderWay l.initial.count l.initial.patches (cells_in l.cells l.y) l.count l.patches (cells_from l.cells l.y l.x)
