@@ -1,4 +1,3 @@
 pub mod Pours
 pub mod Opens
-pub mod Calls
 pub mod Totals

@@ -1,11 +1,13 @@
 -- The contents of live uncovered cells, by their marks. Assumes nothing.
-use Rattle.std.proofs.Common.{◌≡◌, ℕ, ◌<◌, Bool, true, false, cond, not, ◌&&◌, List, get_or, sym, refl, ap, ◌∙◌, arith}
-use Rattle.amount.specs.Additions.{Addition}
+use Rattle.std.proofs.Common.{◌≡◌, ℕ, ◌+◌, ◌<◌, Bool, true, false, cond, not, ◌&&◌, eqb, List, length, get_or, take, sym, refl, ap, ◌∙◌, arith}
+use Rattle.std.proofs.lemmas.List.{get_or_default}
+use Rattle.amount.specs.Additions.{Addition, Sums, sum}
+use Rattle.amount.proofs.Totals.{sum_more}
 use Rattle.grid.specs.declared.layout.Layout.{Layout}
 use Rattle.grid.specs.Sizes.{sheet_length, sheet}
-use Rattle.grid.specs.Hierarchies.{live, leaf, mark}
+use Rattle.grid.specs.Hierarchies.{leaf, mark}
 use Rattle.grid.specs.Layouts.{hierarchy_of, marks_of}
-use Rattle.grid.proofs.Sheets.{sheet_at, CellAt, cell_at}
+use Rattle.grid.proofs.Sheets.{length-sheet, sheet_at, cell_at}
 use Rattle.grid.proofs.Indices.{in_mesh_from}
 use Rattle.model.specs.Fields.{fields_of}
 use Rattle.model.specs.Sums.{gate}
@@ -15,45 +17,26 @@ use Rattle.model.proofs.Sheets.{field_in}
 abbrev pub counted : {A : Type 0} → Addition A → Layout → List A → ℕ → ℕ → ℕ → A
 counted G o contents l x y = gate G (leaf (hierarchy_of o) l x y) (fields_of o.size G.zero contents l x y)
 
-leaf_mark : (c v : Bool) → ◌≡◌ {A = ℕ} (cond c 2 (cond v 1 0)) 1 → (v && not c) ≡ true
-leaf_mark true v e = absurd (omega arith)
-leaf_mark false true e = refl
-leaf_mark false false e = absurd (omega arith)
+-- the mark of a leaf is 1, and no other cell's is
+leaf_byte : (covered live : Bool) → eqb (cond covered 2 (cond live 1 0)) 1 ≡ (live && not covered)
+leaf_byte true true = refl
+leaf_byte true false = refl
+leaf_byte false true = refl
+leaf_byte false false = refl
 
-other_mark : (c v : Bool) → (◌≡◌ {A = ℕ} (cond c 2 (cond v 1 0)) 1 → ⊥) → (v && not c) ≡ false
-other_mark true true e = refl
-other_mark true false e = refl
-other_mark false true e = absurd (e refl)
-other_mark false false e = refl
-
-module _ {A : Type 0} (G : Addition A) (o : Layout) (marks : List ℕ) (marked : marks ≡ marks_of o) (contents : List A) (i : ℕ) (within : i < sheet_length o.size) where
-  cell : CellAt o.size i
-  cell = cell_at o.size i within
-
-  mark_is : get_or marks i 0 ≡ mark (hierarchy_of o) cell.l cell.x cell.y
-  mark_is =
-      ap (λ ms. get_or ms i 0) marked
-      ∙ (ap (λ n. get_or (marks_of o) n 0) cell.is ∙ sheet_at o.size (mark (hierarchy_of o)) cell.l cell.x cell.y 0 cell.in_levels cell.in_columns cell.in_rows)
-
-  entry_is : get_or (sheet o.size (counted G o contents)) i G.zero ≡ counted G o contents cell.l cell.x cell.y
-  entry_is =
-      ap (λ n. get_or (sheet o.size (counted G o contents)) n G.zero) cell.is
-      ∙ sheet_at o.size (counted G o contents) cell.l cell.x cell.y G.zero cell.in_levels cell.in_columns cell.in_rows
-
-  content_is : fields_of o.size G.zero contents cell.l cell.x cell.y ≡ get_or contents i G.zero
-  content_is =
-      field_in o.size G.zero contents cell.l cell.x cell.y (in_mesh_from o.size cell.l cell.x cell.y cell.in_levels cell.in_columns cell.in_rows)
-      ∙ ap (λ n. get_or contents n G.zero) (sym cell.is)
-
-  pub leaf_counts : get_or marks i 0 ≡ 1 → get_or (sheet o.size (counted G o contents)) i G.zero ≡ get_or contents i G.zero
-  leaf_counts e =
-      entry_is
-      ∙ (ap (λ b. gate G b (fields_of o.size G.zero contents cell.l cell.x cell.y))
-      (leaf_mark ((hierarchy_of o).covered cell.l cell.x cell.y) (live (hierarchy_of o) cell.l cell.x cell.y) (sym mark_is ∙ e))
-      ∙ content_is)
-
-  pub other_counts_not : (get_or marks i 0 ≡ 1 → ⊥) → get_or (sheet o.size (counted G o contents)) i G.zero ≡ G.zero
-  other_counts_not ne =
-      entry_is
-      ∙ ap (λ b. gate G b (fields_of o.size G.zero contents cell.l cell.x cell.y))
-      (other_mark ((hierarchy_of o).covered cell.l cell.x cell.y) (live (hierarchy_of o) cell.l cell.x cell.y) (λ e. ne (mark_is ∙ e)))
+-- The content of the cell that stands at an index is added if its byte is 1.
+pub counts_more : {A : Type 0} (G : Addition A) → Sums G → (o : Layout) {marks : List ℕ} → marks ≡ marks_of o → (contents : List A)
+    → length contents ≡ sheet_length o.size → (i : ℕ) → i < length contents → (b : Bool) → b ≡ eqb (get_or marks i 0) 1
+    → G.◌⊕◌ (sum G (take i (sheet o.size (counted G o contents)))) (gate G b (get_or contents i G.zero))
+    ≡ sum G (take (i + 1) (sheet o.size (counted G o contents)))
+counts_more G laws o marked contents long i within b b_is =
+    let all = sheet o.size (counted G o contents) in
+    let cell = cell_at o.size i (omega arith) in
+    let byte = ap (λ ms. get_or ms i 0) marked ∙ (ap (λ n. get_or (marks_of o) n 0) cell.is ∙ sheet_at o.size (mark (hierarchy_of o)) cell.l cell.x cell.y 0 cell.in_levels cell.in_columns cell.in_rows) in
+    let content = ap (λ n. get_or contents n G.zero) cell.is
+    ∙ sym (field_in o.size G.zero contents cell.l cell.x cell.y (in_mesh_from o.size cell.l cell.x cell.y cell.in_levels cell.in_columns cell.in_rows)) in
+    let entry = ap (λ n. get_or all n G.zero) cell.is ∙ sheet_at o.size (counted G o contents) cell.l cell.x cell.y G.zero cell.in_levels cell.in_columns cell.in_rows in
+    let same : gate G b (get_or contents i G.zero) ≡ get_or all i G.zero =
+    ap (gate G b) content ∙ (ap (λ t. gate G t (fields_of o.size G.zero contents cell.l cell.x cell.y)) (b_is ∙ (ap (λ v. eqb v 1) byte ∙ leaf_byte _ _)) ∙ sym entry) in
+    let inside : i < length all = omega (arith, length-sheet o.size (counted G o contents)) in
+    sum_more G laws all i _ inside (same ∙ get_or_default all i G.zero _ inside)

@@ -2,15 +2,14 @@ ghost use Rattle.std.specs.Prelude.{◌≡◌};
 ghost use Rattle.model.specs.Calls.{audit_call};
 ghost use Rattle.sheets.specs.Lists.{lent};
 ghost use Rattle.mesh.specs.Reads.{state_of, outcome};
-ghost use Rattle.mesh.specs.Reports.{report_of, reported};
+ghost use Rattle.mesh.specs.Reports.{reported};
 
 use crate::mesh::Mesh;
-use crate::total::leaf_total;
 use amount::Amount;
 use sheets::{Refusal, Sheets};
 
 // What an audit reports.
-#[derive(Clone, Copy)]
+#[derive(Clone, Copy, PartialEq, Eq, Debug)]
 pub struct Audit<V> {
     // how many steps were accepted
     pub steps: u32,
@@ -23,30 +22,18 @@ pub struct Audit<V> {
 }
 
 impl<V: Amount> Mesh<V> {
-    // What the mesh keeps, with a total.
-    fn report(&self, total: V) -> Audit<V>
-        ensures { report_of result ≡ record { steps = self.now.steps; total = total; poured = self.now.poured; inward = self.now.inward } }
-    {
-        Audit {
-            steps: self.steps,
-            total,
-            poured: self.poured,
-            inward: self.inward,
-        }
-    }
-
     // Reports the accepted steps, the composite total and the sums poured and inward. It changes nothing.
     // Refused: 2 a sheet of the wrong length, 5 marks that differ from what the patches say.
     pub fn audit(&self, sheets: &Sheets<'_, V>) -> Result<Audit<V>, Refusal>
         ensures { outcome V.Amount.addition (reported result) self.now (lent sheets.now) ≡ audit_call V.Amount.addition (state_of V.Amount.addition self.now (lent sheets.now)) (lent sheets.now) }
     {
-        if !sheets.are_long(self.layout.sheet_length()) {
-            return Err(Refusal::SheetLength);
-        }
-        if !self.layout.marks_agree(sheets.marks) {
-            return Err(Refusal::Marks);
-        }
-        let total = leaf_total(&self.layout, sheets.marks, sheets.contents);
-        Ok(self.report(total))
+        sheets.check_length(self.layout.sheet_length())?;
+        let marked = self.check_marks(sheets.marks)?;
+        Ok(Audit {
+            steps: self.steps,
+            total: marked.leaf_total(sheets.contents),
+            poured: self.poured,
+            inward: self.inward,
+        })
     }
 }

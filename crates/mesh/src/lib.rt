@@ -2,7 +2,7 @@
 #![tactic(auto)]
 
 mod audit;
-mod clear;
+mod check;
 mod mesh;
 mod open;
 mod pour;

@@ -3,10 +3,9 @@
 
 mod lent;
 mod marks;
-mod number;
 mod refusal;
 mod whole;
 
 pub use lent::Sheets;
-pub use marks::{first_mark, is_covered, is_leaf};
+pub use marks::first_mark;
 pub use refusal::Refusal;
