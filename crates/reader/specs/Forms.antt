@@ -29,6 +29,10 @@ amount_field line k = field_within line k (negsuc 999999999) (pos 1000000000)
 abbrev pub has_fields : List ℕ → ℕ → Bool
 has_fields line n = length (fields line) == n
 
+-- a line that has another number of fields is refused
+abbrev pub counted : List ℕ → ℕ → Result (Unit {0}) Fault
+counted line n = needed (has_fields line n) fault.Fields (Ok tt)
+
 -- Volumes: one number. The rule is advect,CX,CY with both numbers from -128 to 128.
 abbrev pub advect_line : List ℕ → Result (Unit {0}) Fault
 advect_line line =

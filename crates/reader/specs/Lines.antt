@@ -1,6 +1,6 @@
 -- What each line of a scenario says. Of a line, an unknown first word comes first, then a word out of order, then a wrong number
 -- of fields; then the first bad field from the left decides. Assumes nothing.
-use Rattle.std.specs.Prelude.{ℕ, List, Some, None, Ok, Err, codes, Option, Result}
+use Rattle.std.specs.Prelude.{ℕ, List, [], ◌∷◌, Some, None, Ok, Err, codes, Option, Result}
 use Rattle.std.specs.List.{slice_get}
 use Rattle.grid.specs.declared.size.Size.{Size}
 use Rattle.grid.specs.Sizes.{size_of}
@@ -11,8 +11,10 @@ use Rattle.syntax.specs.declared.fault.Fault.{Fault}
 use Rattle.syntax.specs.declared.fault.Fault.TheVariants as fault
 use Rattle.reader.specs.declared.header.KindName.{KindName}
 use Rattle.reader.specs.declared.header.KindName.TheVariants as kind
-use Rattle.syntax.specs.declared.name.Choice.{Choice}
-use Rattle.syntax.specs.declared.name.Choice.TheVariants.{First, Second}
+use Rattle.reader.specs.declared.names.SplitName.{SplitName}
+use Rattle.reader.specs.declared.names.SplitName.TheVariants as split
+use Rattle.reader.specs.declared.names.ClusterName.{ClusterName}
+use Rattle.reader.specs.declared.names.ClusterName.TheVariants as cluster
 use Rattle.syntax.specs.declared.word.Phase.{Phase}
 use Rattle.syntax.specs.declared.word.Phase.TheVariants as phase
 use Rattle.syntax.specs.declared.word.Word.{Word}
@@ -30,9 +32,9 @@ word_if (Some bs) = word_of bs
 abbrev pub first_word : List ℕ → Option Word
 first_word line = word_if (slice_get (fields line) 0)
 
-abbrev pub kind_of : Choice → KindName
-kind_of First = kind.Volume
-kind_of Second = kind.Water
+-- the first word of a line that is due, and the phase after it
+abbrev pub due_word : Phase → List ℕ → Result (Word × Phase) Fault
+due_word p line = taken (first_word line) fault.Word (λ w. taken (next_phase p w) fault.Order (λ next. Ok (w, next)))
 
 -- mesh,volume|water,W,H,L with W from 0 to 16, H from 0 to 4 and L from 0 to 255
 abbrev pub mesh_line : List ℕ → Result (KindName × Size) Fault
@@ -40,33 +42,33 @@ mesh_line line =
     taken (first_word line) fault.Word (λ w.
     taken (next_phase phase.Mesh w) fault.Order (λ p.
     needed (has_fields line 5) fault.Fields (
-    taken (choice_of line 1 (codes "volume") (codes "water")) fault.Fields (λ k.
+    taken (choice_of line 1 ((codes "volume", kind.Volume) ∷ (codes "water", kind.Water) ∷ [])) fault.Fields (λ k.
     taken (up_to line 2 16) fault.Number (λ width.
     taken (up_to line 3 4) fault.Number (λ height.
-    taken (up_to line 4 255) fault.Number (λ levels. Ok (kind_of k, size_of width height levels))))))))
+    taken (up_to line 4 255) fault.Number (λ levels. Ok (k, size_of width height levels))))))))
 
 -- feed,A with an amount
 abbrev pub feed_line : List ℕ → Result (Unit {0}) Fault
 feed_line line = needed (has_fields line 2) fault.Fields (taken (amount_field line 1) fault.Number (λ a. Ok tt))
 
+-- a word and one of these names
+abbrev pub named_line : {T : Type 0} → List ℕ → List (List ℕ × T) → Result T Fault
+named_line line names = needed (has_fields line 2) fault.Fields (taken (choice_of line 1 names) fault.Fields (λ k. Ok k))
+
 -- split,first|even
-abbrev pub split_line : List ℕ → Result (Unit {0}) Fault
-split_line line = needed (has_fields line 2) fault.Fields (taken (choice_of line 1 (codes "first") (codes "even")) fault.Fields (λ k. Ok tt))
+abbrev pub split_line : List ℕ → Result SplitName Fault
+split_line line = named_line line ((codes "first", split.First) ∷ (codes "even", split.Even) ∷ [])
 
 -- flag,steep,T with T from 0 to 1,000,000,000, or flag,from,X with X from 0 to 255
-abbrev pub most_flag : Choice → ℕ
-most_flag First = 1000000000
-most_flag Second = 255
-
 abbrev pub flag_line : List ℕ → Result (Unit {0}) Fault
 flag_line line =
     needed (has_fields line 3) fault.Fields (
-    taken (choice_of line 1 (codes "steep") (codes "from")) fault.Fields (λ k.
-    taken (up_to line 2 (most_flag k)) fault.Number (λ n. Ok tt)))
+    taken (choice_of line 1 ((codes "steep", 1000000000) ∷ (codes "from", 255) ∷ [])) fault.Fields (λ most.
+    taken (up_to line 2 most) fault.Number (λ n. Ok tt)))
 
 -- cluster,runs|cells
-abbrev pub cluster_line : List ℕ → Result (Unit {0}) Fault
-cluster_line line = needed (has_fields line 2) fault.Fields (taken (choice_of line 1 (codes "runs") (codes "cells")) fault.Fields (λ k. Ok tt))
+abbrev pub cluster_line : List ℕ → Result ClusterName Fault
+cluster_line line = named_line line ((codes "runs", cluster.Runs) ∷ (codes "cells", cluster.Cells) ∷ [])
 
 module _ {A : Type 0} (K : Form A) where
   -- pour,X,Y and an amount, with X and Y from 0 to 255

@@ -1,13 +1,14 @@
-// The lines of the header that are the same for every amount kind.
-ghost use Rattle.std.specs.Prelude.{◌≡◌};
-ghost use Rattle.reader.specs.Lines.{mesh_line, feed_line, split_line, flag_line, cluster_line};
+// The lines of the header that are the same for every amount kind. By a rule of the project each field of a line is taken by
+// `let .. else`, which returns its own fault at once, also where `ok_or` and `?` would be shorter.
+ghost use Rattle.std.specs.Prelude.{◌≡◌, map};
+ghost use Rattle.reader.specs.Lines.{mesh_line, feed_line, named_line, flag_line};
 
+use crate::fields::{expect_fields, read_amount, read_due};
 use grid::Size;
-use syntax::{Choice, Fault, Phase, due, read_choice, read_up_to, read_word};
-use text::{field, field_count, number_field};
+use syntax::{Fault, Phase, read_choice, read_up_to};
 
 // The amount kind that a scenario names.
-#[derive(Clone, Copy, PartialEq, Eq)]
+#[derive(Clone, Copy, PartialEq, Eq, Debug)]
 pub enum KindName {
     Volume,
     Water,
@@ -17,19 +18,10 @@ pub enum KindName {
 pub fn read_mesh(line: &[u8]) -> Result<(KindName, Size), Fault>
     ensures { result ≡ mesh_line line.now }
 {
-    let Some(first) = field(line, 0) else {
-        return Err(Fault::Word);
-    };
-    let Some(word) = read_word(first) else {
-        return Err(Fault::Word);
-    };
-    let Some(_) = due(Phase::Mesh, word) else {
-        return Err(Fault::Order);
-    };
-    if field_count(line) != 5 {
-        return Err(Fault::Fields);
-    }
-    let Some(name) = read_choice(line, 1, "volume", "water") else {
+    read_due(Phase::Mesh, line)?;
+    expect_fields(line, 5)?;
+    let kinds = [("volume", KindName::Volume), ("water", KindName::Water)];
+    let Some(kind) = read_choice(line, 1, &kinds) else {
         return Err(Fault::Fields);
     };
     let Some(width) = read_up_to(line, 2, 16) else {
@@ -40,10 +32,6 @@ pub fn read_mesh(line: &[u8]) -> Result<(KindName, Size), Fault>
     };
     let Some(levels) = read_up_to(line, 4, 255) else {
         return Err(Fault::Number);
-    };
-    let kind = match name {
-        Choice::First => KindName::Volume,
-        Choice::Second => KindName::Water,
     };
     let size = Size {
         width,
@@ -57,57 +45,35 @@ pub fn read_mesh(line: &[u8]) -> Result<(KindName, Size), Fault>
 pub(crate) fn read_feed(line: &[u8]) -> Result<(), Fault>
     ensures { result ≡ feed_line line.now }
 {
-    if field_count(line) != 2 {
-        return Err(Fault::Fields);
-    }
-    let Some(_) = number_field(line, 1, -1_000_000_000, 1_000_000_000) else {
+    expect_fields(line, 2)?;
+    let Some(_) = read_amount(line, 1) else {
         return Err(Fault::Number);
     };
     Ok(())
 }
 
-// Reads `split,first|even`.
-pub(crate) fn read_split(line: &[u8]) -> Result<(), Fault>
-    ensures { result ≡ split_line line.now }
+// Reads a line that takes one of these names, as `split,first|even` and `cluster,runs|cells` do.
+pub(crate) fn read_named<T: Copy>(line: &[u8], names: &[(&str, T)]) -> Result<T, Fault>
+    ensures { result ≡ named_line line.now (map (λ name. (name.0.now, name.1)) names.now) }
 {
-    if field_count(line) != 2 {
-        return Err(Fault::Fields);
-    }
-    let Some(_) = read_choice(line, 1, "first", "even") else {
+    expect_fields(line, 2)?;
+    let Some(name) = read_choice(line, 1, names) else {
         return Err(Fault::Fields);
     };
-    Ok(())
+    Ok(name)
 }
 
 // Reads `flag,steep,T` or `flag,from,X`.
 pub(crate) fn read_flag(line: &[u8]) -> Result<(), Fault>
     ensures { result ≡ flag_line line.now }
 {
-    if field_count(line) != 3 {
+    expect_fields(line, 3)?;
+    let limits = [("steep", 1_000_000_000), ("from", 255)];
+    let Some(most) = read_choice(line, 1, &limits) else {
         return Err(Fault::Fields);
-    }
-    let Some(name) = read_choice(line, 1, "steep", "from") else {
-        return Err(Fault::Fields);
-    };
-    let most = match name {
-        Choice::First => 1_000_000_000,
-        Choice::Second => 255,
     };
     let Some(_) = read_up_to(line, 2, most) else {
         return Err(Fault::Number);
-    };
-    Ok(())
-}
-
-// Reads `cluster,runs|cells`.
-pub(crate) fn read_cluster(line: &[u8]) -> Result<(), Fault>
-    ensures { result ≡ cluster_line line.now }
-{
-    if field_count(line) != 2 {
-        return Err(Fault::Fields);
-    }
-    let Some(_) = read_choice(line, 1, "runs", "cells") else {
-        return Err(Fault::Fields);
     };
     Ok(())
 }

@@ -9,7 +9,7 @@ use syntax::Fault;
 pub trait Kind: Amount {
     ghost form: { Form Self };
 
-    // How many fields a pour line has.
+    // How many fields a pour line has. A function, since a constant would want a ghost member beside it and a proof in each impl.
     fn pour_fields() -> usize
         ensures { result ≡ form.count };
 
@@ -21,7 +21,7 @@ pub trait Kind: Amount {
     fn read_rule(line: &[u8]) -> Result<(), Fault>
         ensures { result ≡ form.rule line.now };
 
-    // Writes the fields of an amount, each after a comma.
+    // Writes the fields of an amount, each after a comma: the form of a scenario, and so no `Display` of the amount.
     fn write(self, out: &mut String) -> Result<(), AllocError>
         ensures { OnOk result (string_bytes out.new ≡ string_bytes out.old ++ form.show self) };
 }

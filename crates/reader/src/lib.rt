@@ -2,9 +2,11 @@
 #![tactic(auto)]
 
 mod command;
+mod fields;
 mod header;
 mod kind;
 mod line;
+mod names;
 mod volume_kind;
 mod water_kind;
 

@@ -1,11 +1,13 @@
-// Volumes as a scenario writes them.
+// Volumes as a scenario writes them. Fields are taken by `let .. else`, a rule of the project.
 ghost use Rattle.reader.specs.Forms.{volume_form};
 
+use crate::fields::{expect_fields, read_amount};
 use crate::kind::Kind;
+use crate::names::{RULES, RuleName};
 use amount::Volume;
 use std::alloc::AllocError;
-use syntax::{Choice, Fault, read_choice};
-use text::{field_count, number_field, write_number};
+use syntax::{Fault, read_choice};
+use text::{number_field, write_number};
 
 impl Kind for Volume {
     ghost form = { volume_form };
@@ -15,17 +17,14 @@ impl Kind for Volume {
     }
 
     fn read(line: &[u8]) -> Option<Volume> {
-        let Some(units) = number_field(line, 3, -1_000_000_000, 1_000_000_000) else {
-            return None;
-        };
-        Some(Volume { units })
+        Some(Volume {
+            units: read_amount(line, 3)?,
+        })
     }
 
     fn read_rule(line: &[u8]) -> Result<(), Fault> {
-        if field_count(line) != 4 {
-            return Err(Fault::Fields);
-        }
-        let Some(Choice::First) = read_choice(line, 1, "advect", "water") else {
+        expect_fields(line, 4)?;
+        let Some(RuleName::Advect) = read_choice(line, 1, &RULES) else {
             return Err(Fault::Fields);
         };
         let Some(_) = number_field(line, 2, -128, 128) else {

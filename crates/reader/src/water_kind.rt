@@ -1,29 +1,20 @@
-// Waters as a scenario writes them.
-ghost use Rattle.std.specs.Prelude.{◌≡◌, ◌++◌, string_bytes, OnOk};
-ghost use Rattle.text.specs.Printed.{number_field};
+// Waters as a scenario writes them. Fields are taken by `let .. else`, a rule of the project.
+ghost use Rattle.std.specs.Prelude.{◌≡◌};
 ghost use Rattle.reader.specs.Forms.{amount_field, water_form};
 
+use crate::fields::{expect_fields, read_amount};
 use crate::kind::Kind;
+use crate::names::{RULES, RuleName};
 use amount::Water;
 use std::alloc::AllocError;
-use syntax::{Choice, Fault, read_choice};
-use text::{field_count, number_field, write_number};
+use syntax::{Fault, read_choice};
+use text::number_field;
 
 // One part of an amount, from the field of a line.
 fn read_part(line: &[u8], number: usize) -> Option<i32>
     ensures { result ≡ amount_field line.now number }
 {
-    let Some(part) = number_field(line, number, -1_000_000_000, 1_000_000_000) else {
-        return None;
-    };
-    Some(part as i32)
-}
-
-// Writes a comma, and then one part of an amount.
-fn write_part(out: &mut String, part: i32) -> Result<(), AllocError>
-    ensures { OnOk result (string_bytes out.new ≡ string_bytes out.old ++ number_field part) }
-{
-    write_number(out, i64::from(part))
+    read_amount(line, number).map(|part| part as i32)
 }
 
 impl Kind for Water {
@@ -34,23 +25,16 @@ impl Kind for Water {
     }
 
     fn read(line: &[u8]) -> Option<Water> {
-        let Some(v) = read_part(line, 3) else {
-            return None;
-        };
-        let Some(p) = read_part(line, 4) else {
-            return None;
-        };
-        let Some(q) = read_part(line, 5) else {
-            return None;
-        };
-        Some(Water { v, p, q })
+        Some(Water {
+            v: read_part(line, 3)?,
+            p: read_part(line, 4)?,
+            q: read_part(line, 5)?,
+        })
     }
 
     fn read_rule(line: &[u8]) -> Result<(), Fault> {
-        if field_count(line) != 3 {
-            return Err(Fault::Fields);
-        }
-        let Some(Choice::First) = read_choice(line, 1, "water", "advect") else {
+        expect_fields(line, 3)?;
+        let Some(RuleName::Water) = read_choice(line, 1, &RULES) else {
             return Err(Fault::Fields);
         };
         let Some(_) = number_field(line, 2, 8, 24) else {
@@ -60,8 +44,6 @@ impl Kind for Water {
     }
 
     fn write(self, out: &mut String) -> Result<(), AllocError> {
-        write_part(out, self.v)?;
-        write_part(out, self.p)?;
-        write_part(out, self.q)
+        write!(out, ",{},{},{}", self.v, self.p, self.q)
     }
 }

@@ -1,19 +1,20 @@
 -- A text and its lines, and a run that goes on line by line. Assumes nothing.
-use Rattle.std.proofs.Common.{◌≡◌, ℕ, ◌+◌, ◌-◌, ◌<◌, true, eqb, List, [], ◌∷◌, ◌++◌, length, get_or, Some, None, Ok, Option, Result, sym, refl, ap, ◌∙◌, ap₂, append_assoc, arith}
-use Rattle.std.proofs.lemmas.List.{append-nil, get_or_default}
+use Rattle.std.proofs.Common.{◌≡◌, ℕ, suc, ◌+◌, ◌-◌, true, eqb, List, [], ◌∷◌, ◌++◌, length, Some, None, Ok, Err, IfOk, Option, Result, sym, refl, ap, ◌∙◌, ap₂, append_assoc, arith}
 use Rattle.amount.specs.Additions.{Addition}
 use Rattle.grid.specs.declared.size.Size.{Size}
 use Rattle.model.specs.States.{State}
 use Rattle.model.specs.Refusals.{Sheets}
+use Rattle.model.specs.Calls.{Opening, open_call}
 use Rattle.text.specs.Text.{cut_at}
 use Rattle.text.proofs.Cuts.{by_cut, pieces_by_cut, pieces_none, pieces_some}
-use Rattle.syntax.specs.declared.fault.Fault.{Fault}
-use Rattle.reader.specs.declared.header.KindName.{KindName}
 use Rattle.syntax.specs.declared.word.Phase.{Phase}
-use Rattle.reader.specs.Lines.{mesh_line}
+use Rattle.reader.specs.Lines.{reading}
+use Rattle.reader.specs.declared.command.Command.{Command}
+use Rattle.scenario.specs.Answers.{Executed, executed}
+use Rattle.scenario.specs.Printed.{printed}
+use Rattle.std.specs.Prelude.{Bool, slice_get}
 use Rattle.reader.specs.Forms.{Form}
-use Rattle.scenario.specs.Program.{but_last, lines, ended, LineRun, line_run, if_due, run_lines, run_named, from_mesh_line, run_file}
-use Rattle.scenario.specs.Ran.{Ran}
+use Rattle.scenario.specs.Program.{but_last, lines, ended, unless_fault, if_due, run_lines, new_sheets, after_opening, run_kind}
 
 -- a text has a piece
 first_piece : (text : List ℕ) (c : Option (List ℕ × List ℕ)) (front : List ℕ) → but_last (front ∷ by_cut 10 text c) ≡ front ∷ but_last (by_cut 10 text c)
@@ -28,63 +29,35 @@ lines_some text front rest e =
     ap but_last (pieces_some 10 text front rest e)
     ∙ (ap (λ ps. but_last (front ∷ ps)) (pieces_by_cut 10 rest) ∙ (first_piece rest (cut_at 10 rest) front ∙ sym (ap (λ ps. front ∷ but_last ps) (pieces_by_cut 10 rest))))
 
-module _ {A : Type 0} (G : Addition A) (K : Form A) (n : ℕ) (p : Phase) (s : State A) (sheets : Sheets A) (text front rest : List ℕ) (cuts : Some (front, rest) ≡ cut_at 10 text) (old : List ℕ) where
-  here : LineRun A
-  here = line_run G K n p s sheets front
-
-  unfolds : run_lines G K n p s sheets (lines text) ≡ here.prints ++ if_due G K here.due (λ q. run_lines G K (n + 1) q here.state here.sheets (lines rest))
-  unfolding here
-  unfolds = ap (run_lines G K n p s sheets) (lines_some text front rest cuts)
-
-  -- the line is run and another is due
-  pub goes_on : (due : Option Phase) (next : Phase) → due ≡ Some next → (new : List ℕ) (state : State A) (lent : Sheets A) → Ran (line_run G K n p s sheets front) old due new state lent
-      → new ++ run_lines G K (n + 1) next state lent (lines rest) ≡ old ++ run_lines G K n p s sheets (lines text)
-  unfolding here
-  goes_on due next e new state lent ran =
-      ap₂ (λ b l. b ++ l) ran.prints (ap₂ (λ u v. run_lines G K (n + 1) next u v (lines rest)) ran.mesh ran.lent)
-      ∙ (append_assoc old here.prints (run_lines G K (n + 1) next here.state here.sheets (lines rest))
-      ∙ (ap (λ d. old ++ (here.prints ++ if_due G K d (λ q. run_lines G K (n + 1) q here.state here.sheets (lines rest)))) (sym e ∙ ran.due)
-      ∙ ap (λ b. old ++ b) (sym unfolds)))
-
-  -- the line is run and ends the run
-  pub stops : (due : Option Phase) → due ≡ None → (new : List ℕ) (state : State A) (lent : Sheets A) → Ran (line_run G K n p s sheets front) old due new state lent
-      → new ≡ old ++ run_lines G K n p s sheets (lines text)
-  unfolding here
-  stops due e new state lent ran =
-      ran.prints
-      ∙ (ap (λ b. old ++ b) (sym (append-nil here.prints))
-      ∙ (ap (λ d. old ++ (here.prints ++ if_due G K d (λ q. run_lines G K (n + 1) q here.state here.sheets (lines rest)))) (sym e ∙ ran.due)
-      ∙ ap (λ b. old ++ b) (sym unfolds)))
-
--- no line is left
-pub no_more : {A : Type 0} (G : Addition A) (K : Form A) (n : ℕ) (p : Phase) (s : State A) (sheets : Sheets A) (text old : List ℕ) → None ≡ cut_at 10 text
-    → old ≡ old ++ run_lines G K n p s sheets (lines text)
-no_more G K n p s sheets text old e = sym (append-nil old) ∙ ap (λ ls. old ++ run_lines G K n p s sheets ls) (sym (lines_none text e))
+-- a line that is read and done, after which another is due
+pub goes_on : {A : Type 0} (G : Addition A) (K : Form A) (n : ℕ) (p : Phase) (s : State A) (sheets : Sheets A) (line : List ℕ) (rest : List (List ℕ)) (old : List ℕ)
+    (all : List (List ℕ)) (said : Phase × Command A) (e : Executed A) (next : ℕ) (new : List ℕ)
+    → all ≡ line ∷ rest → Ok said ≡ reading K p line → e ≡ executed G s sheets said.1 → next ≡ n + 1 → new ≡ old ++ printed K n e.answer
+    → new ++ run_lines G K next said.0 e.state e.sheets rest ≡ old ++ run_lines G K n p s sheets all
+goes_on G K n p s sheets line rest old all said e next new cuts reads done count prints =
+    ap₂ (λ b m. b ++ run_lines G K m said.0 e.state e.sheets rest) prints count
+    ∙ (append_assoc old (printed K n e.answer) (run_lines G K (n + 1) said.0 e.state e.sheets rest)
+    ∙ (ap (λ d. old ++ (printed K n d.answer ++ run_lines G K (n + 1) said.0 d.state d.sheets rest)) done
+    ∙ (ap (λ r. let run = unless_fault G K n s sheets r in old ++ (run.prints ++ if_due G K run.due (λ q. run_lines G K (n + 1) q run.state run.sheets rest))) reads
+    ∙ ap (λ ls. old ++ run_lines G K n p s sheets ls) (sym cuts))))
 
 -- a text is ended exactly where its last byte, if it has one, ends a line
-pub ended_last : (b : ℕ) (bs : List ℕ) → ended (b ∷ bs) ≡ eqb (get_or (b ∷ bs) (length bs) 0) 10
-ended_last b [] = refl
-ended_last b (c ∷ bs) = ended_last c bs
+abbrev pub ends_line : Option ℕ → Bool
+ends_line None = true
+ends_line (Some byte) = eqb byte 10
 
-pub ended_by : (text : List ℕ) (byte : ℕ) → 0 < length text → byte ≡ get_or text (length text - 1) byte → eqb byte 10 ≡ ended text
-ended_by [] byte some e = absurd (omega arith)
-ended_by (b ∷ bs) byte some e =
-    let within : length bs < length (b ∷ bs) = omega arith in
-    ap (λ n. eqb n 10) (e ∙ (ap (λ n. get_or (b ∷ bs) n byte) (let q : length (b ∷ bs) - 1 ≡ length bs = omega arith in q) ∙ get_or_default (b ∷ bs) (length bs) byte 0 within))
-    ∙ sym (ended_last b bs)
+pub ended_is : (text : List ℕ) → ended text ≡ ends_line (slice_get text (length text - 1))
+ended_is [] = refl
+ended_is (b ∷ []) = refl
+ended_is (b ∷ c ∷ bs) = let e : length (b ∷ c ∷ bs) - 1 ≡ suc (length (c ∷ bs) - 1) = omega arith in rw e (ended_is (c ∷ bs))
 
-pub ended_none : (text : List ℕ) → length text ≡ 0 → true ≡ ended text
-ended_none [] e = refl
-ended_none (b ∷ bs) e = absurd (omega arith)
+-- a mesh that opens in new sheets, or does not
+pub opened : {A : Type 0} (G : Addition A) (K : Form A) (size : Size) (lent : Sheets A) (o : Opening A) (rest : List (List ℕ))
+    → o ≡ open_call G size lent → lent ≡ new_sheets G K size → after_opening G K o rest ≡ run_kind G K size rest
+opened G K size lent o rest opens new = ap (λ x. after_opening G K x rest) (opens ∙ ap (open_call G size) new)
 
-pub nothing_more : (old new : List ℕ) → new ≡ [] → old ≡ old ++ new
-nothing_more old new e = sym (append-nil old) ∙ ap (λ b. old ++ b) (sym e)
-
--- the first line of a file, and what the mesh line says of it
-pub first_line : (file line rest : List ℕ) (r : Result (KindName × Size) Fault) → Some (line, rest) ≡ cut_at 10 file → r ≡ mesh_line line
-    → from_mesh_line r (lines rest) ≡ run_file (lines file)
-first_line file line rest r cuts e = ap (λ m. from_mesh_line m (lines rest)) e ∙ sym (ap run_file (lines_some file line rest cuts))
-
-pub named_line : (file line rest : List ℕ) (k : KindName) (said : KindName × Size) → Some (line, rest) ≡ cut_at 10 file → Ok said ≡ mesh_line line → said.0 ≡ k
-    → run_named k said.1 (lines rest) ≡ run_file (lines file)
-named_line file line rest k said cuts e is = ap (λ j. run_named j said.1 (lines rest)) (sym is) ∙ first_line file line rest (Ok said) cuts e
+-- what was printed is another text too, where the two are equal
+pub written_as : {X Y : Type 0} (r : Result X Y) (start end text other : List ℕ) → text ≡ other
+    → IfOk r (λ _. end ≡ start ++ text) → IfOk r (λ _. end ≡ start ++ other)
+written_as (Ok x) start end text other e h = h ∙ ap (λ b. start ++ b) e
+written_as (Err y) start end text other e h = tt

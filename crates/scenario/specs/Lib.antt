@@ -1,4 +1,4 @@
 pub mod Printed
 pub mod Answers
 pub mod Program
-pub mod Ran
+pub mod Left

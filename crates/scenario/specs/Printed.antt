@@ -1,14 +1,14 @@
 -- What is printed, as bytes; 10 ends a line. Assumes nothing.
-use Rattle.std.specs.Prelude.{ℕ, List, [], ◌∷◌, ◌++◌, pos, Some, None, Ok, Err, codes, decimal, Option, Result}
+use Rattle.std.specs.Prelude.{◌≡◌, ℕ, List, [], ◌∷◌, ◌++◌, pos, Some, None, Ok, Err, codes, decimal, Option, Result, OnOk, String, string_bytes}
 use Rattle.model.specs.States.{Report}
 use Rattle.text.specs.Printed.{number_field}
 use Rattle.syntax.specs.declared.fault.Layer.{Layer}
-use Rattle.syntax.specs.declared.fault.Layer.TheVariants.{Reader, Mesh}
+use Rattle.syntax.specs.Faults.{letter_of}
 use Rattle.reader.specs.Forms.{Form}
 
-abbrev pub letter_of : Layer → List ℕ
-letter_of Reader = codes "r"
-letter_of Mesh = codes "m"
+-- unless memory runs out, this text is printed after what stood there before
+abbrev pub Prints : {X E Z : Type 0} → Result X E → (old new : String Z) → List ℕ → Type 0
+Prints r old new text = OnOk r (string_bytes new ≡ string_bytes old ++ text)
 
 -- fault,LINE,LAYER,NUMBER
 abbrev pub fault_line : ℕ → Layer → ℕ → List ℕ

@@ -17,16 +17,17 @@ pub(crate) fn execute<V: Kind>(
 ) -> Result<Option<Audit<V>>, Fault>
     ensures { record { answer = told result; state = state_of V.Amount.addition mesh.new (left sheets.exit); sheets = left sheets.exit } ≡ executed V.Amount.addition (state_of V.Amount.addition mesh.old (lent sheets.entry)) (lent sheets.entry) command }
 {
-    let Sheets {
-        contents,
-        before,
-        corrections,
-        marks,
-        wanted,
-    } = sheets;
     match command {
         Command::Header => Ok(None),
         Command::Pour { x, y, amount } => {
+            // taken apart: the proof loses what a parameter of `&mut` fields lends once that is moved whole
+            let Sheets {
+                contents,
+                before,
+                corrections,
+                marks,
+                wanted,
+            } = sheets;
             let sheets = Sheets {
                 contents,
                 before,
@@ -37,16 +38,6 @@ pub(crate) fn execute<V: Kind>(
             mesh.pour(sheets, x, y, amount)?;
             Ok(None)
         }
-        Command::Audit => {
-            let sheets = Sheets {
-                contents,
-                before,
-                corrections,
-                marks,
-                wanted,
-            };
-            let audit = mesh.audit(&sheets)?;
-            Ok(Some(audit))
-        }
+        Command::Audit => Ok(Some(mesh.audit(&sheets)?)),
     }
 }

@@ -1,6 +1,7 @@
 // A scenario, from its bytes to what is printed.
 #![tactic(auto)]
 
+mod cut_lines;
 mod execute;
 mod file;
 mod lines;

@@ -6,6 +6,7 @@ use grid::{Layout, Size};
 use std::alloc::{AllocError, Global};
 
 // A sheet with this value in each entry.
+#[tactic(auto, using(std::proofs::lemmas::List::replicate_more))]
 pub(crate) fn new_sheet<T: Copy>(
     heap: Global,
     value: T,
@@ -14,6 +15,7 @@ pub(crate) fn new_sheet<T: Copy>(
     ensures { IfOk result (λ v. v.items ≡ replicate length value) }
 {
     let mut sheet = Vec::new(heap);
+    // pushed, since `vec!` clones, and nothing says that the clone of a `Copy` value is that value
     for _ in 0..length {
         sheet.push(value)?;
     }
@@ -24,8 +26,5 @@ pub(crate) fn new_sheet<T: Copy>(
 pub(crate) fn length_of(size: Size) -> usize
     ensures { result ≡ (if in_range size then sheet_length size else 0) }
 {
-    match Layout::flat(size) {
-        Some(layout) => layout.sheet_length(),
-        None => 0,
-    }
+    Layout::flat(size).map_or(0, |layout| layout.sheet_length())
 }

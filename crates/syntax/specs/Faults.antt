@@ -1,5 +1,5 @@
 -- The number of each fault and who refused, and how a line is read field by field. Assumes nothing.
-use Rattle.std.specs.Prelude.{ℕ, Bool, cond, Some, None, Ok, Err, Option, Result}
+use Rattle.std.specs.Prelude.{ℕ, Bool, List, cond, Some, None, Ok, Err, codes, Option, Result}
 use Rattle.sheets.specs.Numbers.{number_of as refusal_number}
 use Rattle.syntax.specs.declared.fault.Fault.{Fault}
 use Rattle.syntax.specs.declared.fault.Fault.TheVariants as fault
@@ -23,6 +23,11 @@ layer_of fault.Fields = layer.Reader
 layer_of fault.Number = layer.Reader
 layer_of (fault.Mesh e) = layer.Mesh
 
+-- how a layer is written
+abbrev pub letter_of : Layer → List ℕ
+letter_of layer.Reader = codes "r"
+letter_of layer.Mesh = codes "m"
+
 -- what is there is taken, and the reading goes on with it; what is not there is this fault
 abbrev pub taken : {X Y : Type 0} → Option X → Fault → (X → Result Y Fault) → Result Y Fault
 taken None f on = Err f
@@ -32,7 +37,7 @@ taken (Some x) f on = on x
 abbrev pub needed : {Y : Type 0} → Bool → Fault → Result Y Fault → Result Y Fault
 needed test f on = cond test on (Err f)
 
--- the reading goes on after a part that has no value
-abbrev pub after : {Y : Type 0} → Result (Unit {0}) Fault → Result Y Fault → Result Y Fault
-after (Ok u) on = on
+-- the reading goes on after a part whose value is not needed
+abbrev pub after : {X Y : Type 0} → Result X Fault → Result Y Fault → Result Y Fault
+after (Ok x) on = on
 after (Err f) on = Err f

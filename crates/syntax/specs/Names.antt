@@ -1,13 +1,11 @@
--- Fields that hold one of two names. Assumes nothing.
-use Rattle.std.specs.Prelude.{ℕ, Bool, false, cond, List, pos, Some, None, Option}
+-- Fields that hold one of a few names. Assumes nothing.
+use Rattle.std.specs.Prelude.{ℕ, Bool, false, List, pos, Some, None, Option}
 use Rattle.std.specs.Int.Signed.{mag}
 use Rattle.std.specs.Option.{option_map}
-use Rattle.std.specs.List.{slice_get}
+use Rattle.std.specs.List.{find, slice_get}
 use Rattle.std.specs.Str.{bytes_eq}
 use Rattle.text.specs.Text.{fields}
 use Rattle.text.specs.Numbers.{field_within}
-use Rattle.syntax.specs.declared.name.Choice.{Choice}
-use Rattle.syntax.specs.declared.name.Choice.TheVariants.{First, Second}
 
 abbrev pub is_text : Option (List ℕ) → List ℕ → Bool
 is_text None name = false
@@ -17,9 +15,9 @@ is_text (Some bs) name = bytes_eq bs name
 abbrev pub named : List ℕ → ℕ → List ℕ → Bool
 named line k name = is_text (slice_get (fields line) k) name
 
--- which of two names the field k holds, if it holds one
-abbrev pub choice_of : List ℕ → ℕ → List ℕ → List ℕ → Option Choice
-choice_of line k first second = cond (named line k first) (Some First) (cond (named line k second) (Some Second) None)
+-- what the first of these names that the field k holds stands for, if it holds one
+abbrev pub choice_of : {T : Type 0} → List ℕ → ℕ → List (List ℕ × T) → Option T
+choice_of line k names = option_map (λ name. name.1) (find (λ name. named line k name.0) names)
 
 -- the field k as a number from 0 to most
 abbrev pub up_to : List ℕ → ℕ → ℕ → Option ℕ

@@ -1,6 +1,9 @@
 -- The first words of lines, and the order in which lines come. Assumes nothing.
-use Rattle.std.specs.Prelude.{ℕ, cond, List, Some, None, codes, Option, ◌==◌}
+use Rattle.std.specs.Prelude.{ℕ, cond, List, Some, None, codes, Option, Result, ◌==◌}
+use Rattle.std.specs.Option.{ok_or}
 use Rattle.std.specs.Str.{bytes_eq}
+use Rattle.syntax.specs.declared.fault.Fault.{Fault}
+use Rattle.syntax.specs.declared.fault.Fault.TheVariants as fault
 use Rattle.syntax.specs.declared.word.Word.{Word}
 use Rattle.syntax.specs.declared.word.Word.TheVariants as word
 use Rattle.syntax.specs.declared.word.Phase.{Phase}
@@ -17,6 +20,10 @@ word_of bs =
     cond (bytes_eq bs (codes "cluster")) (Some word.Cluster) (
     cond (bytes_eq bs (codes "pour")) (Some word.Pour) (
     cond (bytes_eq bs (codes "audit")) (Some word.Audit) None)))))))
+
+-- a text read as a word; a text that spells none is a fault
+abbrev pub word_read : List ℕ → Result Word Fault
+word_read bs = ok_or (word_of bs) fault.Word
 
 -- the place of a word's lines in the order of lines; pour and audit lines share the last
 abbrev pub place_of : Word → ℕ

@@ -2,12 +2,11 @@
 #![tactic(auto)]
 
 mod fault;
-mod from_refusal;
 mod name;
 mod place;
 mod word;
 
 pub use fault::{Fault, Layer};
-pub use name::{Choice, read_choice};
+pub use name::read_choice;
 pub use place::read_up_to;
-pub use word::{Phase, Word, due, read_word};
+pub use word::{Phase, Word, due};

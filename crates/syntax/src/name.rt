@@ -1,35 +1,22 @@
-// Fields that hold one of two names.
-ghost use Rattle.std.specs.Prelude.{◌≡◌};
+// Fields that hold one of a few names.
+ghost use Rattle.std.specs.Prelude.{◌≡◌, map};
 ghost use Rattle.syntax.specs.Names.{named, choice_of};
 
 use text::field;
-
-// Which of two names a field holds.
-#[derive(Clone, Copy, PartialEq, Eq)]
-pub enum Choice {
-    First,
-    Second,
-}
 
 // Whether the field of a line that has this number, counted from 0, is this name, byte for byte.
 fn field_is(line: &[u8], number: usize, name: &str) -> bool
     ensures { result ≡ named line.now number name.now }
 {
-    match field(line, number) {
-        Some(text) => text == name.as_bytes(),
-        None => false,
-    }
+    field(line, number).is_some_and(|text| text == name.as_bytes())
 }
 
-// Which of two names the field of a line holds, if it holds one.
-pub fn read_choice(line: &[u8], number: usize, first: &str, second: &str) -> Option<Choice>
-    ensures { result ≡ choice_of line.now number first.now second.now }
+// What the name in the field of a line stands for, if it is one of these names.
+pub fn read_choice<T: Copy>(line: &[u8], number: usize, names: &[(&str, T)]) -> Option<T>
+    ensures { result ≡ choice_of line.now number (map (λ name. (name.0.now, name.1)) names.now) }
 {
-    if field_is(line, number, first) {
-        Some(Choice::First)
-    } else if field_is(line, number, second) {
-        Some(Choice::Second)
-    } else {
-        None
-    }
+    names
+        .iter()
+        .find(|(name, _)| field_is(line, number, name))
+        .map(|(_, meaning)| *meaning)
 }

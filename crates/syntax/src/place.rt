@@ -8,8 +8,5 @@ use text::number_field;
 pub fn read_up_to(line: &[u8], number: usize, most: u32) -> Option<usize>
     ensures { result ≡ up_to line.now number most }
 {
-    let Some(n) = number_field(line, number, 0, i64::from(most)) else {
-        return None;
-    };
-    Some(n as usize)
+    number_field(line, number, 0, i64::from(most)).map(|n| n as usize)
 }

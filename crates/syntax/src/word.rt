@@ -1,11 +1,11 @@
 // The first words of lines, and the order in which lines come.
 ghost use Rattle.std.specs.Prelude.{◌≡◌};
-ghost use Rattle.syntax.specs.Words.{word_of, next_phase};
+ghost use Rattle.syntax.specs.Words.{word_read, next_phase};
 
-use std::str::from_utf8;
+use crate::fault::Fault;
 
 // The first word of a line.
-#[derive(Clone, Copy, PartialEq, Eq)]
+#[derive(Clone, Copy, PartialEq, Eq, Debug)]
 pub enum Word {
     Mesh,
     Rule,
@@ -18,27 +18,29 @@ pub enum Word {
 }
 
 // The word that a text spells.
-pub fn read_word(text: &[u8]) -> Option<Word>
-    ensures { result ≡ word_of text.now }
-{
-    let Ok(spelling) = from_utf8(text) else {
-        return None;
-    };
-    match spelling {
-        "mesh" => Some(Word::Mesh),
-        "rule" => Some(Word::Rule),
-        "feed" => Some(Word::Feed),
-        "split" => Some(Word::Split),
-        "flag" => Some(Word::Flag),
-        "cluster" => Some(Word::Cluster),
-        "pour" => Some(Word::Pour),
-        "audit" => Some(Word::Audit),
-        _ => None,
+impl TryFrom<&[u8]> for Word {
+    type Error = Fault;
+
+    ghost try_from_gives = { λ text result. result ≡ word_read text.now };
+
+    #[tactic(auto, using(crate::proofs::Spellings::cluster))]
+    fn try_from(text: &[u8]) -> Result<Word, Fault> {
+        match text {
+            b"mesh" => Ok(Word::Mesh),
+            b"rule" => Ok(Word::Rule),
+            b"feed" => Ok(Word::Feed),
+            b"split" => Ok(Word::Split),
+            b"flag" => Ok(Word::Flag),
+            b"cluster" => Ok(Word::Cluster),
+            b"pour" => Ok(Word::Pour),
+            b"audit" => Ok(Word::Audit),
+            _ => Err(Fault::Word),
+        }
     }
 }
 
 // Which line is due: the six lines of the head come once each and in this order, then any number of lines of the body.
-#[derive(Clone, Copy, PartialEq, Eq)]
+#[derive(Clone, Copy, PartialEq, Eq, Debug)]
 pub enum Phase {
     Mesh,
     Rule,
@@ -49,7 +51,8 @@ pub enum Phase {
     Body,
 }
 
-// The phase after a line that begins with this word, or `None` if the word is out of order.
+// The phase after a line that begins with this word, or `None` if the word is out of order. Both are matched together, a form that
+// the project fixes.
 pub fn due(phase: Phase, word: Word) -> Option<Phase>
     ensures { result ≡ next_phase phase word }
 {

@@ -1,8 +1,9 @@
 -- What the first cut of a text says of its pieces and of its length.
-use Rattle.std.proofs.Common.{◌≡◌, ℕ, zero, suc, ◌+◌, ◌-◌, ◌<◌, ◌≤◌, Bool, true, false, cond, eqb, List, [], ◌∷◌, length, get_or, take, drop, Some, None, Option, sym, refl, ap, ◌∙◌, subst, ap₂, add-one, arith}
+use Rattle.std.proofs.Common.{◌≡◌, ℕ, suc, ◌+◌, Bool, true, false, cond, eqb, nat_lt, not, List, [], ◌∷◌, length, take, drop, Some, None, Option, sym, refl, ap, ◌∙◌, subst, arith}
+use Prim.Native.Nat.compare
 use Rattle.std.specs.Option.{option_map}
-use Rattle.std.specs.List.{slice_get}
-use Rattle.std.proofs.lemmas.Bool.{cond-true, cond-false, cond_both, eq-eqb, ne_eqb}
+use Rattle.std.specs.List.{slice_split, onto_first, position, position_or_len}
+use Rattle.std.proofs.lemmas.Bool.{cond-true, cond_both, lt-ltb}
 use Rattle.text.specs.Text.{cut_at, onto, pieces}
 
 -- the pieces of a text, by its first cut
@@ -31,25 +32,34 @@ pieces_none sep bs e = pieces_by_cut sep bs ∙ ap (by_cut sep bs) (sym e)
 pub pieces_some : (sep : ℕ) (bs front rest : List ℕ) → Some (front, rest) ≡ cut_at sep bs → pieces sep bs ≡ front ∷ pieces sep rest
 pieces_some sep bs front rest e = pieces_by_cut sep bs ∙ ap (by_cut sep bs) (sym e)
 
-cut_at_suc : (sep : ℕ) (bs : List ℕ) (i : ℕ) → ((k : ℕ) → k < i → get_or bs k 0 ≡ sep → ⊥) → i < length bs → get_or bs i 0 ≡ sep
-    → cut_at sep bs ≡ Some (take i bs, drop (suc i) bs)
-cut_at_suc sep [] i before l h = absurd (omega arith)
-cut_at_suc sep (b ∷ bs) zero before l h = cond-true _ _ _ (eq-eqb b sep h)
-cut_at_suc sep (b ∷ bs) (suc i) before l h =
-    cond-false _ _ _ (ne_eqb b sep (before 0 (omega arith)))
-    ∙ ap (option_map (λ (parts : List ℕ × List ℕ). (b ∷ parts.0, parts.1))) (cut_at_suc sep bs i (λ k m. before (suc k) (omega arith)) (omega arith) h)
+-- the pieces are the parts that std's split gives
+onto_split : (b : ℕ) (ps : List (List ℕ)) → onto_first b ps ≡ onto b ps
+onto_split b [] = refl
+onto_split b (p ∷ ps) = refl
 
--- the first separator stands at i
-pub cut_here : (sep : ℕ) (bs : List ℕ) (i : ℕ) → ((k : ℕ) → k < i → get_or bs k 0 ≡ sep → ⊥) → i < length bs → get_or bs i 0 ≡ sep
-    → cut_at sep bs ≡ Some (take i bs, drop (i + 1) bs)
-cut_here sep bs i before l h = rw add-one (cut_at_suc sep bs i before l h)
+pub split_pieces : (sep : ℕ) (bs : List ℕ) → slice_split (λ b. eqb b sep) bs ≡ pieces sep bs
+split_pieces sep [] = refl
+split_pieces sep (b ∷ bs) = cc (split_pieces sep bs, onto_split b (pieces sep bs))
 
--- no separator stands anywhere
-pub cut_nowhere : (sep : ℕ) (bs : List ℕ) → ((k : ℕ) → k < length bs → get_or bs k 0 ≡ sep → ⊥) → cut_at sep bs ≡ None
-cut_nowhere sep [] before = refl
-cut_nowhere sep (b ∷ bs) before =
-    cond-false _ _ _ (ne_eqb b sep (before 0 (omega arith)))
-    ∙ ap (option_map (λ (parts : List ℕ × List ℕ). (b ∷ parts.0, parts.1))) (cut_nowhere sep bs (λ k m. before (suc k) (omega arith)))
+-- what stands before an index, and what stands after it
+abbrev pub around : List ℕ → ℕ → List ℕ × List ℕ
+around bs i = (take i bs, drop (suc i) bs)
+
+-- a text is cut where the first separator stands
+cut_behind : (b : ℕ) (bs : List ℕ) (inside : Bool) (n : ℕ) (o : Option (List ℕ × List ℕ)) → option_map (around bs) (cond inside (Some n) None) ≡ o
+    → option_map (around (b ∷ bs)) (cond inside (Some (suc n)) None) ≡ option_map (λ parts. (b ∷ parts.0, parts.1)) o
+cut_behind b bs true n o e = cc
+cut_behind b bs false n o e = cc
+
+cut_step : (b : ℕ) (bs : List ℕ) (same : Bool) (n : ℕ) (o : Option (List ℕ × List ℕ)) → option_map (around bs) (cond (nat_lt n (length bs)) (Some n) None) ≡ o
+    → option_map (around (b ∷ bs)) (cond (nat_lt (cond (not same) (1 + n) 0) (length (b ∷ bs))) (Some (cond (not same) (1 + n) 0)) None)
+    ≡ cond same (Some ([], bs)) (option_map (λ parts. (b ∷ parts.0, parts.1)) o)
+cut_step b bs true n o e = ap (option_map (around (b ∷ bs))) (cond-true _ _ _ (lt-ltb 0 (length (b ∷ bs)) (omega arith)))
+cut_step b bs false n o e = let k : 1 + n ≡ suc n = omega arith in rw (k, compare.suc-suc) (cut_behind b bs (nat_lt n (length bs)) n o e)
+
+pub cut_by_position : (sep : ℕ) (bs : List ℕ) → option_map (around bs) (position (λ b. eqb b sep) bs) ≡ cut_at sep bs
+cut_by_position sep [] = refl
+cut_by_position sep (b ∷ bs) = cut_step b bs (eqb b sep) (position_or_len (λ b. eqb b sep) bs) (cut_at sep bs) (cut_by_position sep bs)
 
 -- the parts of a cut and the separator are as long as the text
 abbrev AsLong : List ℕ → Option (List ℕ × List ℕ) → Type 0
@@ -66,38 +76,3 @@ cut_length sep (b ∷ bs) = cond_both (eqb b sep) _ _ (AsLong (b ∷ bs)) (λ e.
 
 pub length_cut : (sep : ℕ) (bs front rest : List ℕ) → Some (front, rest) ≡ cut_at sep bs → length bs ≡ length front + 1 + length rest
 length_cut sep bs front rest e = subst (AsLong bs) (sym e) (cut_length sep bs)
-
--- each separator adds a piece
-length_onto : (sep b : ℕ) (bs : List ℕ) → length (onto b (pieces sep bs)) ≡ length (pieces sep bs)
-length_onto sep b bs = rw (pieces_by_cut sep bs) (length_by_cut (cut_at sep bs))
-  where
-    length_by_cut : (o : Option (List ℕ × List ℕ)) → length (onto b (by_cut sep bs o)) ≡ length (by_cut sep bs o)
-    length_by_cut None = refl
-    length_by_cut (Some parts) = refl
-
-pub length_pieces_more : (sep b : ℕ) (bs : List ℕ) → b ≡ sep → length (pieces sep (b ∷ bs)) ≡ length (pieces sep bs) + 1
-length_pieces_more sep b bs e = ap length (cond-true (eqb b sep) ([] ∷ pieces sep bs) (onto b (pieces sep bs)) (eq-eqb b sep e)) ∙ omega arith
-
-pub length_pieces_same : (sep b : ℕ) (bs : List ℕ) → (b ≡ sep → ⊥) → length (pieces sep (b ∷ bs)) ≡ length (pieces sep bs)
-length_pieces_same sep b bs e = ap length (cond-false (eqb b sep) ([] ∷ pieces sep bs) (onto b (pieces sep bs)) (ne_eqb b sep e)) ∙ length_onto sep b bs
-
-one_more : (n i : ℕ) → i < n → n - i ≡ suc (n - (i + 1))
-one_more n i l = omega arith
-
-none_left : (n i : ℕ) → n ≤ i → n - i ≡ 0
-none_left n i l = omega arith
-
--- one piece on, from the text to its rest
-pub nth_past_cut : (sep : ℕ) (bs front rest : List ℕ) (n i : ℕ) → Some (front, rest) ≡ cut_at sep bs → i < n → slice_get (pieces sep bs) (n - i) ≡ slice_get (pieces sep rest) (n - (i + 1))
-nth_past_cut sep bs front rest n i e l = ap₂ slice_get (pieces_some sep bs front rest e) (one_more n i l)
-
--- past a text without a separator there is no piece
-pub nth_past_last : (sep : ℕ) (bs : List ℕ) (n i : ℕ) → None ≡ cut_at sep bs → i < n → slice_get (pieces sep bs) (n - i) ≡ None
-nth_past_last sep bs n i e l = ap₂ slice_get (pieces_none sep bs e) (one_more n i l)
-
--- the first piece
-pub nth_at_cut : (sep : ℕ) (bs front rest : List ℕ) (n i : ℕ) → Some (front, rest) ≡ cut_at sep bs → n ≤ i → slice_get (pieces sep bs) (n - i) ≡ Some front
-nth_at_cut sep bs front rest n i e l = ap₂ slice_get (pieces_some sep bs front rest e) (none_left n i l)
-
-pub nth_at_last : (sep : ℕ) (bs : List ℕ) (n i : ℕ) → None ≡ cut_at sep bs → n ≤ i → slice_get (pieces sep bs) (n - i) ≡ Some bs
-nth_at_last sep bs n i e l = ap₂ slice_get (pieces_none sep bs e) (none_left n i l)

@@ -8,8 +8,5 @@ use std::alloc::AllocError;
 pub fn write_number(out: &mut String, n: i64) -> Result<(), AllocError>
     ensures { OnOk result (string_bytes out.new ≡ string_bytes out.old ++ number_field n) }
 {
-    match write!(out, ",{n}") {
-        Ok(()) => Ok(()),
-        Err(_) => Err(AllocError),
-    }
+    write!(out, ",{n}")
 }

@@ -7,19 +7,19 @@ use std::fs;
 fn agrees(rt: &HostRuntime, name: &str) -> anyhow::Result<bool> {
     let input = fs::read(rt, format!(in rt.alloc(); "{name}.in")?)?;
     let expected = fs::read(rt, format!(in rt.alloc(); "{name}.out")?)?;
-    let printed = scenario::run(rt.alloc(), input.as_slice())?;
+    let printed = scenario::run(rt.alloc(), &input)?;
     Ok(printed.as_bytes() == expected.as_slice())
 }
 
 fn main(rt: HostRuntime) -> anyhow::Result<()> {
     let names = fs::read_to_string(&rt, "names")?;
-    let mut passed = 0u32;
-    let mut failed = 0u32;
+    let (mut passed, mut failed) = (0usize, 0usize);
+    // counted in the loop, since it also prints and passes errors up
     for name in names.lines() {
         if agrees(&rt, name)? {
-            passed = passed.saturating_add(1);
+            passed += 1;
         } else {
-            failed = failed.saturating_add(1);
+            failed += 1;
             println!(rt; "{name} differs")?;
         }
     }

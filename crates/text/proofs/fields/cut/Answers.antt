@@ -1,10 +1,24 @@
-use Rattle.std.proofs.Common.{ℕ, ◌+◌, List, take, Some, Option, ap, ◌∙◌}
+use Rattle.std.proofs.Common.{◌≡◌, ap, ◌∙◌, add-one, rules, tests}
+use Rattle.std.specs.Option.{option_map}
 use Rattle.std.proofs.lemmas.List.{take_rest}
+use Rattle.std.proofs.lemmas.Iterator.{YieldsList-from_slice}
+use Rattle.std.proofs.lemmas.Iterator.Search.{position_from_yields_List}
+use Rattle.text.specs.Text.{cut_at}
+use Rattle.text.proofs.Cuts.{around, cut_by_position}
 use Rattle.text.proofs.fields.cut.Goals as goal
 
-pub returns-in-Some : goal.returns-in-Some
-returns-in-Some c =
+pub returns-in_err-i : goal.returns-in_err-i
+returns-in_err-i c =
     let text = c.args.text.now in
-    let i = c.in-Some.i in
-    let with_rest : List ℕ → Option (List ℕ × List ℕ) = λ rest. Some (take i text, rest) in
-    ap with_rest (take_rest text (i + 1)) ∙ c.in-Some.ensures.cuts
+    let cuts : option_map (around text) c.position.result ≡ cut_at c.args.separator text =
+    ap (option_map (around text)) (position_from_yields_List _ _ _ _ c.position.ensures.ran (YieldsList-from_slice text (cc)) (λ x b q k. search (rules, tests)))
+    ∙ cut_by_position c.args.separator text in
+    search rules
+
+pub returns : goal.returns
+returns c =
+    let text = c.args.text.now in
+    let cuts : option_map (around text) c.position.result ≡ cut_at c.args.separator text =
+    ap (option_map (around text)) (position_from_yields_List _ _ _ _ c.position.ensures.ran (YieldsList-from_slice text (cc)) (λ x b q k. search (rules, tests)))
+    ∙ cut_by_position c.args.separator text in
+    rw (take_rest, add-one) (search rules)

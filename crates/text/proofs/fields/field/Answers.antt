@@ -1,15 +1,13 @@
-use Rattle.std.proofs.Common.{sym, ◌∙◌}
-use Rattle.text.proofs.Cuts.{nth_past_cut, nth_past_last, nth_at_cut, nth_at_last}
+use Rattle.std.proofs.Common.{ap, ◌∙◌, rules, tests}
+use Rattle.std.specs.List.{slice_get}
+use Rattle.std.proofs.lemmas.Iterator.Consumers.{nth_from_yields_List}
+use Rattle.std.proofs.lemmas.Iterator.Splits.{YieldsList-from_slice_split}
+use Rattle.text.proofs.Cuts.{split_pieces}
 use Rattle.text.proofs.fields.field.Goals as goal
 
-pub returns-in_default : goal.returns-in_default
-returns-in_default c = sym (nth_past_last 44 c.loop.rest.now c.args.number c.loop.counter c.in_default.ensures c.loop-test.true) ∙ c.loop.invariant
-
-pub loop-preserved : goal.loop-preserved
-loop-preserved c = sym (nth_past_cut 44 c.loop.rest.now _ _ c.args.number c.loop.counter c.in-Some.ensures c.loop-test.true) ∙ c.loop.invariant
-
-pub returns-in-Some-cut : goal.returns-in-Some-cut
-returns-in-Some-cut c = sym (nth_at_cut 44 c.loop.rest.now _ _ c.args.number c.loop.counter c.in-Some-cut.ensures c.loop-test.false) ∙ c.loop.invariant
-
-pub returns-in-None : goal.returns-in-None
-returns-in-None c = sym (nth_at_last 44 c.loop.rest.now c.args.number c.loop.counter c.in-None.ensures c.loop-test.false) ∙ c.loop.invariant
+pub returns : goal.returns
+returns c =
+    let line = c.args.line.now in
+    let n = c.args.number in
+    nth_from_yields_List _ _ n c.nth.ensures.ran (YieldsList-from_slice_split _ _ line c.split.ensures.rest c.split.ensures.done c.split.ensures.closure (λ x r q k. search (rules, tests)))
+    ∙ ap (λ ps. slice_get ps n) (split_pieces 44 line)

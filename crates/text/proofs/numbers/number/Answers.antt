@@ -1,13 +1,15 @@
-use Rattle.std.proofs.Common.{Some, ap, ◌∙◌, arith, rules}
-use Rattle.std.proofs.lemmas.Int.{ints}
-use Rattle.text.proofs.Readings.{number_minus}
+use Rattle.std.proofs.Common.{◌≡◌, ◌∙◌, ap, sym, rules}
+use Rattle.text.proofs.Readings.{is_magnitude, number_parsed, number_utf8}
 use Rattle.text.proofs.numbers.number.Goals as goal
 
-pub returns-in-Some : goal.returns-in-Some
-returns-in-Some c =
-    let h = c.in-45 in
-    let small = c.in-Some.ensures.small in
-    ap Some (omega (arith, ints)) ∙ number_minus c.args.text.now _ (search rules) (search rules) c.in-Some.ensures.value
+pub returns-in_err-ok : goal.returns-in_err-ok
+returns-in_err-ok c =
+    let m = ap is_magnitude (sym c.digits_of-digits.ensures) ∙ sym c.if-not-is_magnitude.ensures in
+    let u = number_utf8 c.args.text.now m in
+    absurd (search (rules, u))
 
-pub returns-in-None : goal.returns-in-None
-returns-in-None c = let h = c.in-45 in number_minus c.args.text.now _ (search rules) (search rules) c.in-None.ensures.value
+pub returns : goal.returns
+returns c =
+    let m = ap is_magnitude (sym c.digits_of-digits.ensures) ∙ sym c.if-not-is_magnitude.ensures in
+    let text : c.in_ok-ok.field-0.now ≡ c.args.text.now = search rules in
+    c.ok-2.ensures.value ∙ number_parsed c.args.text.now c.parse.result (rw text at c.parse.ensures.value.0) m
