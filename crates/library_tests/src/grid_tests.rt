@@ -8,9 +8,7 @@ fn sizes_in_range(rt: HostRuntime) -> Result<(), Fail> {
         height: 16,
         levels: 3,
     };
-    let Some(layout) = Layout::flat(largest) else {
-        return Err(Fail::new("64 by 16 is in range"));
-    };
+    let layout = Layout::flat(largest).ok_or_else(|| Fail::new("64 by 16 is in range"))?;
     assert_eq!(rt; layout.sheet_length(), 21504);
     let last = Place { x: 255, y: 63 };
     assert_eq!(rt; layout.index(2, last), Some(21503));
@@ -32,15 +30,8 @@ fn marks_of_a_patch(rt: HostRuntime) -> Result<(), Fail> {
         height: 1,
         levels: 2,
     };
-    let Some(flat) = Layout::flat(size) else {
-        return Err(Fail::new("4 by 1 is in range"));
-    };
-    let mut patches = [Patch {
-        x0: 0,
-        y0: 0,
-        x1: 0,
-        y1: 0,
-    }; 128];
+    let flat = Layout::flat(size).ok_or_else(|| Fail::new("4 by 1 is in range"))?;
+    let mut patches = [Patch::default(); 128];
     patches[0] = Patch {
         x0: 1,
         y0: 0,

@@ -14,18 +14,16 @@ fn volume(units: i64) -> Volume {
 #[test]
 fn speeds_have_a_range(rt: HostRuntime) -> Result<(), Fail> {
     assert!(rt; Advection::new(128, -128).is_ok());
-    let Err(refusal) = Advection::new(0, 129) else {
-        return Err(Fail::new("129 is out of range"));
-    };
+    let refusal = Advection::new(0, 129)
+        .err()
+        .ok_or_else(|| Fail::new("129 is out of range"))?;
     assert_eq!(rt; refusal.number(), 14);
     Ok(())
 }
 
 #[test]
 fn volumes_are_carried_and_fed(rt: HostRuntime) -> Result<(), Fail> {
-    let Ok(below) = Advection::new(64, 0) else {
-        return Err(Fail::new("64 is in range"));
-    };
+    let below = Advection::new(64, 0).map_err(|_| Fail::new("64 is in range"))?;
     let amounts = [volume(40), volume(10), volume(2)];
     let rule = Feed { below, amounts };
     let east = rule.interior(0, Direction::East, volume(-2), volume(7));
@@ -54,13 +52,6 @@ fn volumes_are_shared_and_flagged(rt: HostRuntime) {
     assert!(rt; !FromColumn { column: 3 }.flag(1, place, volume(0), &neighbours));
 }
 
-const NO_PATCH: Patch = Patch {
-    x0: 0,
-    y0: 0,
-    x1: 0,
-    y1: 0,
-};
-
 #[test]
 fn wanted_cells_become_patches(rt: HostRuntime) {
     let wanted = [1, 1, 0, 1, 0, 1, 1, 0];
@@ -70,10 +61,15 @@ fn wanted_cells_become_patches(rt: HostRuntime) {
         wanted: &wanted,
         nested: &wanted,
     };
-    let mut patches = [NO_PATCH; 5];
+    let mut patches = [Patch::default(); 5];
     assert_eq!(rt; RowRuns.cluster(&cells, &mut patches).ok(), Some(3));
-    let Patch { x0, y0, x1, y1 } = patches[2];
-    assert_eq!(rt; (x0, y0, x1, y1), (1, 1, 3, 2));
+    let third = Patch {
+        x0: 1,
+        y0: 1,
+        x1: 3,
+        y1: 2,
+    };
+    assert_eq!(rt; patches[2], third);
     assert_eq!(rt; SingleCells.cluster(&cells, &mut patches).ok(), Some(5));
     assert!(rt; SingleCells.cluster(&cells, &mut patches[0..4]).is_err());
 }
