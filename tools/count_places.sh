@@ -29,11 +29,11 @@ count '3  a counter raised by hand' rust '\w+ \+= 1;|count \+ 1'
 count '3  while and loop' rust '^ *(while|loop)\b'
 count '4  an impl by hand of equality, order, copying, conversion or printing' rust '^impl.* (PartialEq|Eq|PartialOrd|Ord|Clone|Copy|Default|Hash|From<.*>|TryFrom<.*>|FromStr|.*Display|.*Debug) for'
 count '4  a conversion or a printed form that is a function of its own' rust 'fn (number|layer|letter|read_word|across|speed|write_number|write_part|write_steps)\('
-count '4  a plain type that derives no equality' sh -c "grep -rn -A1 -E '^#\[derive\((Clone, Copy|Drop)\)\]' crates/*/src --include='*.rt' | grep -E 'pub (struct|enum)'"
+count '4  a plain type that derives no equality' sh -c "grep -rn -A1 -E '^#\[derive\((Clone, Copy|Drop)\)\]' crates/*/src --include='*.rt' | grep -E 'pub(\(crate\))? (struct|enum)'"
 count '5  a requires' rust '^ *requires '
 count '5  a Sheets taken apart or put together' rust '^ *(let )?(let sheets = )?Sheets \{$'
 count '6  a buffer with a length or a count beside' rust '(count|length): usize|mut count = 0|buffer: &mut|row: &\[u8; 256\]|row: &mut \[u8; 256\]'
-count '7  a match' rust '\bmatch '
+count '7  a match' rust '^[^/]*\bmatch '
 count '7  a boxed closure, a dyn, a function pointer' rust '\bdyn |: fn\(|Box<'
-count '8  lines of answers and invariants' sh -c "cat crates/*/proofs/*/*/*.antt crates/*/proofs/*/*/*/*.antt crates/*/proofs/*/*/*/*/*.antt 2>/dev/null"
+count '8  lines of answers and invariants' sh -c "cat crates/*/proofs/*/*.antt crates/*/proofs/*/*/*.antt crates/*/proofs/*/*/*/*.antt crates/*/proofs/*/*/*/*/*.antt 2>/dev/null"
 count '8  lines of lemmas in proofs/' sh -c "cat crates/*/proofs/*.antt"

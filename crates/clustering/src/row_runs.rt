@@ -47,7 +47,7 @@ impl RowBoxes for RowRuns {
     }
 }
 
-// In one line for each: an impl of another crate's trait for every `RowBoxes` is not allowed.
+// One line for each, and no plainer otherwise: an impl of another crate's trait for every `RowBoxes` is not allowed.
 impl Clustering for RowRuns {
     ghost boxes = { λ _. whole_runs };
 

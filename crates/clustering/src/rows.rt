@@ -10,7 +10,8 @@ use crate::boxes::Boxes;
 use grid::Patch;
 use interfaces::{CellMaps, TooMany};
 
-// A clustering that makes boxes of each row by itself.
+// A clustering that makes boxes of each row by itself. That the row is there is asked in two functions, that y + 1 is a number in two:
+// a row as a type would be no plainer.
 pub(crate) trait RowBoxes {
     ghost boxes_in: { CellMaps → ℕ → List Patch };
 
@@ -29,6 +30,7 @@ pub(crate) fn cluster_rows<R: RowBoxes>(
     ensures { Clustered result patches.old patches.new (by_rows (R.boxes_in cells.now) cells.now.height 0) }
 {
     let mut boxes = Boxes { patches, count: 0 };
+    // by rows: there is no list of them, so the range is no index
     for y in 0..cells.height {
         rows.push_row(cells, y, &mut boxes)?;
     }

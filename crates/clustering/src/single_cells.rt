@@ -31,7 +31,7 @@ impl RowBoxes for SingleCells {
     }
 }
 
-// In one line for each: an impl of another crate's trait for every `RowBoxes` is not allowed.
+// One line for each, and no plainer otherwise: an impl of another crate's trait for every `RowBoxes` is not allowed.
 impl Clustering for SingleCells {
     ghost boxes = { λ _. single_cells };
 

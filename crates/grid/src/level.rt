@@ -8,7 +8,7 @@ use crate::place::Place;
 const CELLS_BELOW: [usize; 4] = [0, 1, 5, 21];
 
 // One level of a layout.
-#[derive(Clone, Copy)]
+#[derive(Clone, Copy, PartialEq, Eq, Debug)]
 pub(crate) struct Level<'a> {
     pub layout: &'a Layout,
     pub number: usize,

@@ -19,7 +19,7 @@ impl Level<'_> {
 }
 
 impl Layout {
-    // Whether a sheet has the marks of a level.
+    // Whether a sheet has the marks of a level. By `let .. else`, since what a closure in a closure gives is not proved.
     fn level_agrees(&self, level: usize, marks: &[u8]) -> bool
         ensures { level < self.now.size.levels → length marks.now ≡ sheet_length self.now.size → Decides result (LevelMarked self.now marks.now level) }
     {

@@ -9,7 +9,8 @@ use crate::level::Level;
 use crate::mark::Mark;
 use crate::patch::Patch;
 
-// Writes a mark wherever a patch crosses row y of the patches' grid. The row has `scale` places for each cell of that grid.
+// Writes a mark wherever a patch crosses row y of the patches' grid. The row has `scale` places for each cell of that grid. What is
+// asked here, and of y below and in marks.rt, is asked in one or two functions: a type for it would be no plainer.
 fn paint(patches: &[Patch], scale: usize, y: usize, mark: Mark, row: &mut [u8])
     requires scale { (1 ≤ scale) × (scale ≤ 2) }
     requires inside { All (λ p. (p.x0 ≤ p.x1) × (p.x1 * scale ≤ length row.old)) patches.now }

@@ -10,7 +10,7 @@ pub enum RuleRefusal {
 impl RuleRefusal {
     ghost use Rattle.interfaces.specs.Refusals.{number_of};
 
-    // The number of a refusal, as docs/REFUSALS.md explains it.
+    // The number of a refusal, as docs/REFUSALS.md explains it. A name, which says more than a cast where it is called.
     pub fn number(self) -> u8
         ensures { result ≡ number_of self }
     {

@@ -36,6 +36,7 @@ impl<V: Copy> Memory<V> {
         })
     }
 
+    // put together here alone: a call takes all five
     fn lend(&mut self) -> Sheets<'_, V> {
         Sheets {
             contents: &mut self.contents,
@@ -97,6 +98,7 @@ fn sizes_up_to_1024_base_cells_open(rt: HostRuntime) -> Result<(), Fail> {
 #[test]
 fn each_sheet_has_its_length(rt: HostRuntime) -> Result<(), Fail> {
     assert_eq!(rt; refusal(&rt, rt.alloc(), SMALL, [10; 5])?, None);
+    // by number: which of the five lengths is wrong
     for sheet in 0..5 {
         for length in [9, 11] {
             let mut lengths = [10; 5];

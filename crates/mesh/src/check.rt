@@ -8,7 +8,7 @@ use sheets::Refusal;
 
 // A sheet of marks that says what the patches of a layout say. The contents, which have its length, stay apart: a `&mut` in a struct
 // that is passed on loses what it borrows.
-#[derive(Clone, Copy)]
+#[derive(Clone, Copy, PartialEq, Eq, Debug)]
 pub(crate) struct Marked<'a> {
     pub layout: &'a Layout,
     pub marks: &'a [u8],

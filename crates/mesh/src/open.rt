@@ -9,7 +9,8 @@ use amount::Amount;
 use grid::{Layout, Size};
 use sheets::{Refusal, Sheets, first_mark};
 
-// Marks the base cells as live and uncovered, and no other cell as live: entry by entry, as `first_mark` says it.
+// Marks the base cells as live and uncovered, and no other cell as live: entry by entry, as `first_mark` says it. The length is asked here,
+// as of this slice it is asked nowhere else.
 fn mark_base(layout: &Layout, marks: &mut [u8])
     requires { length marks.old ≡ sheet_length layout.now.size }
     ensures { marks.new ≡ sheet layout.now.size (λ l x y. (if nat_eq l 0 then 1 else 0)) }
@@ -28,6 +29,7 @@ impl<V: Amount> Mesh<V> {
     {
         let layout = Layout::flat(size).ok_or(Refusal::Size)?;
         sheets.check_length(layout.sheet_length())?;
+        // taken apart: each sheet is written by itself
         let Sheets {
             contents,
             before,

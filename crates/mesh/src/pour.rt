@@ -62,6 +62,7 @@ impl<V: Amount> Mesh<V> {
         let base = Place { x, y };
         sheets.check_length(self.layout.sheet_length())?;
         self.layout.index(0, base).ok_or(Refusal::Outside)?;
+        // taken apart: marks are read while contents are written
         let Sheets {
             contents,
             marks,

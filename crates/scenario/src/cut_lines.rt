@@ -3,7 +3,7 @@ ghost use Rattle.std.specs.Prelude.{length};
 
 use text::cut;
 
-// The lines of a text that are still to come, each ended by a line feed.
+// The lines of a text that are still to come, each ended by a line feed. An iterator: none is compared.
 #[derive(Drop)]
 pub(crate) struct Lines<'a> {
     pub(crate) rest: &'a [u8],

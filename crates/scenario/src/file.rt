@@ -27,7 +27,8 @@ fn is_ended(file: &[u8]) -> bool
     file.last().is_none_or(|byte| *byte == b'\n')
 }
 
-// Opens a mesh on line 1 and, if it opens, runs the lines after it, with amounts of one kind.
+// Opens a mesh on line 1 and, if it opens, runs the lines after it, with amounts of one kind. A match here and below: a refusal is
+// printed, and not passed up.
 // The sheets are slices with names: the proof knows what a call left in one only by a slice that is used after it.
 fn run_kind<V: Kind>(
     heap: Global,

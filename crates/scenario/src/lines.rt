@@ -35,6 +35,7 @@ pub(crate) fn run_lines<V: Kind>(
     let mut phase = Phase::Rule;
     for (index, line) in lines.enumerate() {
         let number = index + 2;
+        // a match: a fault is printed, and not passed up
         let (next, command) = match read_line(phase, line) {
             Ok(said) => said,
             Err(fault) => return write_fault(out, number, fault),

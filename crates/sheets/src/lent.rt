@@ -1,5 +1,6 @@
 // The five sheets that every call is lent: one entry for each cell of each level, level 0 first, each level row by row
-// from the south-west. Before, corrections and wanted are working sheets and may hold anything.
+// from the south-west. Before, corrections and wanted are working sheets and may hold anything. Slices, and five of them, by a rule of
+// the project: memory is lent. No equality, as they are lent to be written.
 #[derive(Drop)]
 pub struct Sheets<'a, V> {
     // what each cell holds

@@ -15,7 +15,7 @@ pub enum Refusal {
 }
 
 impl Refusal {
-    // The number of a refusal.
+    // The number of a refusal. A name, which says more than a cast where it is called.
     pub fn number(self) -> u8
         ensures { result ≡ number_of self }
     {

@@ -47,7 +47,7 @@ impl Fault {
         }
     }
 
-    // Which layer refused.
+    // Which layer refused. A name, since a `From` would not say what is asked.
     pub fn layer(self) -> Layer
         ensures { result ≡ layer_of self }
     {

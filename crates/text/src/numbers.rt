@@ -13,7 +13,7 @@ fn is_magnitude(text: &[u8]) -> bool
     (1..=10).contains(&text.len()) && text.iter().all(u8::is_ascii_digit)
 }
 
-// A text without its minus, if it has one. The match is the form that the project fixes; `strip_prefix` would do.
+// A text without its minus, if it has one. Matched, a form that the project fixes; `strip_prefix` would do.
 fn digits_of(text: &[u8]) -> &[u8]
     ensures { result.now ≡ unsigned text.now }
 {
