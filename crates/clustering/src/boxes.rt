@@ -1,5 +1,5 @@
 // Where a clustering writes its boxes.
-ghost use Rattle.std.specs.Prelude.{[], ◌∷◌};
+ghost use Rattle.std.specs.Prelude.{◌≡◌, [], ◌∷◌, OnErr};
 ghost use Rattle.clustering.specs.Rows.{Wrote};
 
 use grid::Patch;
@@ -14,9 +14,10 @@ pub(crate) struct Boxes<'a> {
 }
 
 impl Boxes<'_> {
-    // Writes a box after the others. By `get_mut` it is not proved that the other patches stay as they are.
+    // Writes a box after the others; refused, it changes nothing. By `get_mut` it is not proved that the other patches stay as they are.
     pub(crate) fn push(&mut self, patch: Patch) -> Result<(), TooMany>
-        ensures { Wrote result self.old self.new (patch ∷ []) }
+        ensures written { Wrote result self.old self.new (patch ∷ []) }
+        ensures refused { OnErr result (self.new ≡ self.old) }
     {
         if self.count >= self.patches.len() {
             return Err(TooMany);

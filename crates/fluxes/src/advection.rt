@@ -53,8 +53,11 @@ impl Flux<Volume> for Advection {
         steps: u32,
         content: Volume,
     ) -> Volume {
-        let speed = self.speed(Direction::from(side));
-        speed.inward_over(side, Volume::zero(), content)
+        let outer = Volume::zero();
+        match side {
+            Side::West | Side::East => self.cx.inward_over(side, outer, content),
+            Side::South | Side::North => self.cy.inward_over(side, outer, content),
+        }
     }
 }
 

@@ -34,10 +34,12 @@ part_decides marks a b (Some x) p r le inside h e =
     Decides-like r (λ q. sym h.0.2 ∙ q) (λ q. h.0.2 ∙ q) (slice_eq-Decides Decides-eqb x.now p.now r e)
 
 -- a part of the sheet that equals the front of the painted row
-pub row_decides : (o : Layout) (marks row : List ℕ) (l y f w : ℕ) (got : Option (Bor (List ℕ))) (p : Bor (List ℕ)) (r : Bool) → f ≡ level_start o.size l + y * level_width o.size l → w ≡ level_width o.size l
-    → f + w ≤ length marks → w ≤ length row → p.now ≡ take w row → ((x : ℕ) → x < level_width o.size l → get_or row x 0 ≡ mark (hierarchy_of o) l x y)
-    → PartBy (λ (x : Bor (List ℕ)). x.now) marks f (f + w) got → r ≡ option_eq (λ x y. pointwise eqb x.now y.now) got (Some p) → Decides r (RowMarked o marks l y)
-row_decides o marks row l y f w got p r ef ew inside long is painted looked eq =
+pub row_decides : (o : Layout) (marks row : List ℕ) (l y f w end front : ℕ) (got : Option (Bor (List ℕ))) (p : Bor (List ℕ)) (r : Bool) → f ≡ level_start o.size l + y * level_width o.size l → w ≡ level_width o.size l
+    → f + w ≤ length marks → w ≤ length row → end ≡ f + w → front ≡ w → p.now ≡ take front row → ((x : ℕ) → x < level_width o.size l → get_or row x 0 ≡ mark (hierarchy_of o) l x y)
+    → PartBy (λ (x : Bor (List ℕ)). x.now) marks f end got → r ≡ option_eq (λ x y. pointwise eqb x.now y.now) got (Some p) → Decides r (RowMarked o marks l y)
+row_decides o marks row l y f w end front got p r ef ew inside long ends fronts part painted whole eq =
+    let is : p.now ≡ take w row = part ∙ ap (λ n. take n row) fronts in
+    let looked = subst (λ (n : ℕ). PartBy (λ (x : Bor (List ℕ)). x.now) marks f n got) ends whole in
     Decides-like r
     (λ same x lx. grind (arith, at x (omega arith), same, is, get_or-take w row x 0 (omega arith), painted x lx))
     (λ marked. ext_get_or 0 (slice_range marks f (f + w)) (take w row) (length_part ∙ sym (length-take-le w row long)) (λ x lt.

@@ -35,7 +35,7 @@ module _ (s : Size) where
   level_fits l ll = starts_mono l s.levels ll
 
   -- each row of a level lies inside the level
-  row_ends : (l y : ℕ) → y < level_height s l → y * level_width s l + level_width s l ≤ level_height s l * level_width s l
+  pub row_ends : (l y : ℕ) → y < level_height s l → y * level_width s l + level_width s l ≤ level_height s l * level_width s l
   row_ends l y ly = part_ends (λ k. k * level_width s l) (λ _. level_width s l) (row_next l) (level_height s l) y ly
 
   pub row_ends_in : (l y : ℕ) → y < level_height s l → level_start s l + y * level_width s l + level_width s l ≤ level_start s (l + 1)

@@ -24,11 +24,15 @@ impl Layout {
         let found = self.level(level)?;
         let offset = index.checked_sub(found.start())?;
         let width = found.width();
+        // asked first, since a division costs more
+        if offset >= width * found.height() {
+            return None;
+        }
         let place = Place {
             x: offset % width,
             y: offset / width,
         };
-        found.has(place).then_some((level, place))
+        Some((level, place))
     }
 
     // The cell, its level and its place, whose entry stands at an index. None past the end of a sheet.

@@ -11,7 +11,8 @@ impl Level<'_> {
         requires { y < level_height self.layout.now.size self.number }
         ensures { length marks.now ≡ sheet_length self.entry.layout.now.size → Decides result (RowMarked self.entry.layout.now marks.now self.entry.number y) }
     {
-        let row = self.row(y);
+        let mut row = [0; 256];
+        self.paint_row(y, &mut row);
         let width = self.width();
         let from = self.start() + y * width;
         marks.get(from..from + width) == Some(&row[..width])

@@ -24,10 +24,11 @@ fn paint(patches: &[Patch], scale: usize, y: usize, mark: Mark, row: &mut [u8])
 }
 
 impl Level<'_> {
-    // The marks of row y, in the front of a row that is wide enough for every level, as no memory is had for one of its width.
-    pub(crate) fn row(self, y: usize) -> [u8; 256]
+    // Paints the marks of row y into the front of a row that is wide enough for every level, as no memory is had for one of its width.
+    // The row is lent, as one that is answered is copied.
+    pub(crate) fn paint_row(self, y: usize, row: &mut [u8; 256])
         requires { y < level_height self.layout.now.size self.number }
-        ensures { (x : ℕ) → x < level_width self.entry.layout.now.size self.entry.number → slice_index result x ≡ mark_of (hierarchy_of self.entry.layout.now) self.entry.number x y }
+        ensures { (x : ℕ) → x < level_width self.entry.layout.now.size self.entry.number → slice_index row.new x ≡ mark_of (hierarchy_of self.entry.layout.now) self.entry.number x y }
     {
         let bare = if self.number == 0 {
             Mark::Leaf
@@ -36,9 +37,8 @@ impl Level<'_> {
         };
         let own = self.layout.patches(self.number);
         let next = self.layout.patches(self.number + 1);
-        let mut row = [u8::from(bare); 256];
-        paint(own, 2, y / 2, Mark::Leaf, &mut row);
-        paint(next, 1, y, Mark::Covered, &mut row);
-        row
+        *row = [u8::from(bare); 256];
+        paint(own, 2, y / 2, Mark::Leaf, row);
+        paint(next, 1, y, Mark::Covered, row);
     }
 }

@@ -27,7 +27,10 @@ impl<V: Amount> Mesh<V> {
     pub fn open(size: Size, sheets: Sheets<'_, V>) -> Result<Mesh<V>, Refusal>
         ensures { opening V.Amount.addition result (left sheets.exit) ≡ open_call V.Amount.addition size (lent sheets.entry) }
     {
-        let layout = Layout::flat(size).ok_or(Refusal::Size)?;
+        // by `let .. else`, since `ok_or` and `?` each copy the layout
+        let Some(layout) = Layout::flat(size) else {
+            return Err(Refusal::Size);
+        };
         sheets.check_length(layout.sheet_length())?;
         // taken apart: each sheet is written by itself
         let Sheets {

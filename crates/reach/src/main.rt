@@ -1,15 +1,39 @@
 // Reads a scenario from standard input and prints what its audits say and which lines are refused.
 #![tactic(auto)]
 
-use std::io::Read;
+ghost use Rattle.std.specs.Prelude.{◌≤◌, IfOk};
+
+use std::io;
+use std::io::{ErrorKind, Read};
 
 // One byte more than a scenario may have, so that a longer one is seen to be longer.
-const ENOUGH: u64 = 12_289;
+const ENOUGH: usize = 12_289;
+
+// Fills the buffer from standard input, as far as that goes, and says how many bytes came. No memory is had for them, and a read is
+// offered all that is left of the buffer.
+fn read_input(rt: &HostRuntime, buffer: &mut [u8; ENOUGH]) -> io::Result<usize>
+    ensures { IfOk result (λ n. n ≤ 12289) }
+{
+    let mut input = rt.stdin();
+    let mut length = 0;
+    for _ in 0..u64::MAX {
+        if length >= ENOUGH {
+            break;
+        }
+        match input.read(&mut buffer[length..]) {
+            Ok(0) => break,
+            Ok(count) => length += count,
+            Err(error) if error.kind() == ErrorKind::Interrupted => {}
+            Err(error) => return Err(error),
+        }
+    }
+    Ok(length)
+}
 
 fn main(rt: HostRuntime) -> anyhow::Result<()> {
-    let mut file = Vec::new(rt.alloc());
-    rt.stdin().take(ENOUGH).read_to_end(&mut file)?;
-    let printed = scenario::run(rt.alloc(), &file)?;
+    let mut buffer = [0; ENOUGH];
+    let length = read_input(&rt, &mut buffer)?;
+    let printed = scenario::run(rt.alloc(), &buffer[..length])?;
     rt.print(printed)?;
     Ok(())
 }

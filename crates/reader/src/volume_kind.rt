@@ -17,9 +17,10 @@ impl Kind for Volume {
     }
 
     fn read(line: &[u8]) -> Option<Volume> {
-        Some(Volume {
-            units: read_amount(line, 3)?,
-        })
+        let Some(units) = read_amount(line, 3) else {
+            return None;
+        };
+        Some(Volume { units })
     }
 
     fn read_rule(line: &[u8]) -> Result<(), Fault> {

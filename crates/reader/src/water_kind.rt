@@ -14,7 +14,10 @@ use text::number_field;
 fn read_part(line: &[u8], number: usize) -> Option<i32>
     ensures { result ≡ amount_field line.now number }
 {
-    read_amount(line, number).map(|part| part as i32)
+    let Some(part) = read_amount(line, number) else {
+        return None;
+    };
+    Some(part as i32)
 }
 
 impl Kind for Water {
@@ -25,11 +28,16 @@ impl Kind for Water {
     }
 
     fn read(line: &[u8]) -> Option<Water> {
-        Some(Water {
-            v: read_part(line, 3)?,
-            p: read_part(line, 4)?,
-            q: read_part(line, 5)?,
-        })
+        let Some(v) = read_part(line, 3) else {
+            return None;
+        };
+        let Some(p) = read_part(line, 4) else {
+            return None;
+        };
+        let Some(q) = read_part(line, 5) else {
+            return None;
+        };
+        Some(Water { v, p, q })
     }
 
     fn read_rule(line: &[u8]) -> Result<(), Fault> {

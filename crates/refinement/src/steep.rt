@@ -1,5 +1,6 @@
 // Where volumes differ.
-ghost use Rattle.refinement.specs.Flags.{steep as steep_rule};
+ghost use Rattle.std.specs.Prelude.{◌≡◌};
+ghost use Rattle.refinement.specs.Flags.{steep_between, steep as steep_rule};
 
 use crate::has_volume::HasVolume;
 use grid::Place;
@@ -11,19 +12,23 @@ pub struct Steep {
     pub threshold: u64,
 }
 
+impl Steep {
+    // Whether two volumes differ by more than the threshold.
+    fn differ<V: HasVolume>(&self, a: &V, b: &V) -> bool
+        ensures { result ≡ steep_between self.now.threshold (V.HasVolume.volume a.now) (V.HasVolume.volume b.now) }
+    {
+        a.volume().abs_diff(b.volume()) > self.threshold
+    }
+}
+
 impl<V: HasVolume> Flagging<V> for Steep {
     ghost flags = { λ s. steep_rule V.HasVolume.volume s.threshold };
 
+    // Neighbour by neighbour, up to the first that differs: an array of all four volumes is filled before one is compared.
     fn flag(&self, level: usize, place: Place, content: V, neighbours: &Neighbours<V>) -> bool {
-        let volume = content.volume();
-        let around = [
-            neighbours.west.volume(),
-            neighbours.east.volume(),
-            neighbours.south.volume(),
-            neighbours.north.volume(),
-        ];
-        around
-            .iter()
-            .any(|other| volume.abs_diff(*other) > self.threshold)
+        self.differ(&content, &neighbours.west)
+            || self.differ(&content, &neighbours.east)
+            || self.differ(&content, &neighbours.south)
+            || self.differ(&content, &neighbours.north)
     }
 }

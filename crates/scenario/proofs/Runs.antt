@@ -41,6 +41,14 @@ goes_on G K n p s sheets line rest old all said e next new cuts reads done count
     ∙ (ap (λ r. let run = unless_fault G K n s sheets r in old ++ (run.prints ++ if_due G K run.due (λ q. run_lines G K (n + 1) q run.state run.sheets rest))) reads
     ∙ ap (λ ls. old ++ run_lines G K n p s sheets ls) (sym cuts))))
 
+-- the same, by what the number of the line is
+pub goes_on_at : {A : Type 0} (G : Addition A) (K : Form A) (n number : ℕ) (p : Phase) (s : State A) (sheets : Sheets A) (line : List ℕ) (rest : List (List ℕ)) (old : List ℕ)
+    (all : List (List ℕ)) (said : Phase × Command A) (e : Executed A) (next : ℕ) (new : List ℕ) → number ≡ n
+    → all ≡ line ∷ rest → Ok said ≡ reading K p line → e ≡ executed G s sheets said.1 → next ≡ n + 1 → new ≡ old ++ printed K number e.answer
+    → new ++ run_lines G K next said.0 e.state e.sheets rest ≡ old ++ run_lines G K n p s sheets all
+goes_on_at G K n number p s sheets line rest old all said e next new same cuts reads done count prints =
+    goes_on G K n p s sheets line rest old all said e next new cuts reads done count (prints ∙ ap (λ k. old ++ printed K k e.answer) same)
+
 -- a text is ended exactly where its last byte, if it has one, ends a line
 abbrev pub ends_line : Option ℕ → Bool
 ends_line None = true

@@ -26,5 +26,9 @@ pub(crate) fn new_sheet<T: Copy>(
 pub(crate) fn length_of(size: Size) -> usize
     ensures { result ≡ (if in_range size then sheet_length size else 0) }
 {
-    Layout::flat(size).map_or(0, |layout| layout.sheet_length())
+    // a match, since a closure is passed a copy of the layout
+    match Layout::flat(size) {
+        Some(layout) => layout.sheet_length(),
+        None => 0,
+    }
 }

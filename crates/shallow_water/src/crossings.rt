@@ -1,20 +1,23 @@
 // What crosses a face, by the fluxes and the contents of the cells on both sides.
 ghost use Rattle.std.specs.Prelude.{◌≡◌};
+ghost use Rattle.shallow_water.specs.Ranges.{Narrow, NarrowParts};
 ghost use Rattle.shallow_water.specs.Waves.{crossing as crossing_of, crossings as crossings_of, water_along};
 
 use crate::along::Along;
 use crate::part::Part;
 use crate::seen::Seen;
+use crate::whole::floor_div;
 use amount::Water;
 use model::Direction;
 
 // What crosses of one part.
 fn crossing(flux_low: Part, flux_high: Part, low: Part, high: Part) -> i32
-    ensures { result ≡ crossing_of flux_low flux_high low high }
+    ensures value { result ≡ crossing_of flux_low flux_high low high }
+    ensures range { Narrow result }
 {
     let flux = flux_low.get() + flux_high.get();
     let eightfold = 4 * flux + (low.get() - high.get());
-    eightfold.div_euclid(8) as i32
+    floor_div(eightfold, 8) as i32
 }
 
 // What crosses of each part.
@@ -24,7 +27,8 @@ pub(crate) fn crossings(
     low: Seen,
     high: Seen,
 ) -> Along<i32>
-    ensures { result ≡ crossings_of flux_low flux_high low high }
+    ensures value { result ≡ crossings_of flux_low flux_high low high }
+    ensures range { NarrowParts result }
 {
     Along {
         v: crossing(flux_low.v, flux_high.v, low.v, high.v),

@@ -8,6 +8,7 @@ mod face;
 mod part;
 mod seen;
 mod shallow_water;
+mod whole;
 
 pub use examples::shallow_water_examples;
 pub use shallow_water::ShallowWater;

@@ -3,6 +3,7 @@ ghost use Rattle.std.specs.Prelude.{◌≡◌, ℤ, pos, ◌*ℤ◌, ◌≤ℤ�
 ghost use Rattle.shallow_water.specs.declared.along.Along.{Along};
 
 use crate::part::Part;
+use crate::whole::floor_div;
 use amount::Water;
 use model::Direction;
 use std::marker::Model;
@@ -60,6 +61,11 @@ impl Seen {
         ensures value { MatchOption result (self.v ≡ pos 0) (λ r. (self.v ≢ pos 0) × (r ≡ floor_div (self.n *ℤ momentum) self.v)) }
         ensures range { IfSome result (λ r. unsigned_abs r ≤ 72057594037927936) }
     {
-        (self.n.get() * momentum.get()).checked_div_euclid(self.v.get())
+        let product = self.n.get() * momentum.get();
+        let volume = self.v.get();
+        if volume == 0 {
+            return None;
+        }
+        Some(floor_div(product, volume))
     }
 }

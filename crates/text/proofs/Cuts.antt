@@ -1,9 +1,11 @@
 -- What the first cut of a text says of its pieces and of its length.
-use Rattle.std.proofs.Common.{◌≡◌, ℕ, suc, ◌+◌, Bool, true, false, cond, eqb, nat_lt, not, List, [], ◌∷◌, length, take, drop, Some, None, Option, sym, refl, ap, ◌∙◌, subst, arith}
+use Rattle.std.proofs.Common.{◌≡◌, ℕ, suc, ◌+◌, ◌<◌, inl, inr, Bool, true, false, cond, eqb, nat_lt, not, List, [], ◌∷◌, length, take, drop, ◌-◌, add-one, Some, None, Option, sym, refl, ap, ◌∙◌, subst, arith}
 use Prim.Native.Nat.compare
 use Rattle.std.specs.Option.{option_map}
 use Rattle.std.specs.List.{slice_split, onto_first, position, position_or_len}
-use Rattle.std.proofs.lemmas.Bool.{cond-true, cond_both, lt-ltb}
+use Rattle.std.proofs.lemmas.List.{take_rest}
+use Rattle.std.proofs.lemmas.Bool.Decides.{nat_tests}
+use Rattle.std.proofs.lemmas.Bool.{cases_Bool, cond-true, cond-false, cond_both, lt-ltb, eq-eqb, ne_eqb}
 use Rattle.text.specs.Text.{cut_at, onto, pieces}
 
 -- the pieces of a text, by its first cut
@@ -76,3 +78,28 @@ cut_length sep (b ∷ bs) = cond_both (eqb b sep) _ _ (AsLong (b ∷ bs)) (λ e.
 
 pub length_cut : (sep : ℕ) (bs front rest : List ℕ) → Some (front, rest) ≡ cut_at sep bs → length bs ≡ length front + 1 + length rest
 length_cut sep bs front rest e = subst (AsLong bs) (sym e) (cut_length sep bs)
+
+-- each separator adds a piece
+length_onto : (sep b : ℕ) (bs : List ℕ) → length (onto b (pieces sep bs)) ≡ length (pieces sep bs)
+length_onto sep b bs = rw (pieces_by_cut sep bs) (length_by_cut (cut_at sep bs))
+  where
+    length_by_cut : (o : Option (List ℕ × List ℕ)) → length (onto b (by_cut sep bs o)) ≡ length (by_cut sep bs o)
+    length_by_cut None = refl
+    length_by_cut (Some parts) = refl
+
+pub length_pieces_more : (sep b : ℕ) (bs : List ℕ) → b ≡ sep → length (pieces sep (b ∷ bs)) ≡ length (pieces sep bs) + 1
+length_pieces_more sep b bs e = ap length (cond-true (eqb b sep) ([] ∷ pieces sep bs) (onto b (pieces sep bs)) (eq-eqb b sep e)) ∙ omega arith
+
+pub length_pieces_same : (sep b : ℕ) (bs : List ℕ) → (b ≡ sep → ⊥) → length (pieces sep (b ∷ bs)) ≡ length (pieces sep bs)
+length_pieces_same sep b bs e = ap length (cond-false (eqb b sep) ([] ∷ pieces sep bs) (onto b (pieces sep bs)) (ne_eqb b sep e)) ∙ length_onto sep b bs
+
+-- the first separator, if there is one, stands inside the text
+pub found_inside : (bs : List ℕ) (n i : ℕ) → Some i ≡ cond (nat_lt n (length bs)) (Some n) None → i < length bs
+found_inside bs n i e = elim (cases_Bool (nat_lt n (length bs))) [
+  | inl lt ↦ let same : Some i ≡ Some n = e ∙ cond-true _ _ _ lt in grind (arith, nat_tests, same, lt)
+  | inr ge ↦ let none : Some i ≡ None = e ∙ cond-false _ _ _ ge in grind (arith, none)
+]
+
+-- a text parted where its first separator stands, at i
+pub parted : (sep : ℕ) (text : List ℕ) (i k : ℕ) → k ≡ i + 1 → Some (around text i) ≡ cut_at sep text → Some (take i text, take (length text - k) (drop k text)) ≡ cut_at sep text
+parted sep text i k same cuts = rw (same, take_rest, add-one) cuts

@@ -14,12 +14,7 @@ read_on n (b ∷ bs) = read_on (n * 10 + (b - 48)) bs
 abbrev pub magnitude_of : List ℕ → Option ℕ
 magnitude_of bs = cond (nat_le 1 (length bs) && nat_le (length bs) 10 && all_ascii_digits bs) (Some (read_on 0 bs)) None
 
--- a text without its minus, if it has one; 45 is the minus
-abbrev pub unsigned : List ℕ → List ℕ
-unsigned [] = []
-unsigned (b ∷ bs) = cond (b == 45) bs (b ∷ bs)
-
--- the value of a number
+-- the value of a number; 45 is the minus
 abbrev pub number_of : List ℕ → Option ℤ
 number_of [] = None
 number_of (b ∷ bs) = cond (b == 45) (option_map (λ n. neg_ℤ (pos n)) (magnitude_of bs)) (option_map pos (magnitude_of (b ∷ bs)))

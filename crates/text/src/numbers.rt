@@ -1,37 +1,41 @@
 // Numbers in a text: an optional minus and one to ten digits.
-ghost use Rattle.std.specs.Prelude.{◌≡◌, ◌&&◌, length, nat_le};
-ghost use Rattle.std.specs.Str.{all_ascii_digits};
-ghost use Rattle.text.specs.Numbers.{number_of, unsigned, within, field_within};
+ghost use Rattle.std.specs.Prelude.{◌≡◌, ◌^◌, ◌<◌, IfSome};
+ghost use Rattle.text.specs.Numbers.{magnitude_of, number_of, within, field_within};
 
 use crate::fields::field;
-use std::str::from_utf8;
 
-// Whether a text is one to ten digits.
-fn is_magnitude(text: &[u8]) -> bool
-    ensures { result ≡ (nat_le 1 (length text.now) && nat_le (length text.now) 10 && all_ascii_digits text.now) }
+// The value of one to ten digits, read one by one: the library's `parse` wants a `&str` and goes over the digits three times.
+fn magnitude(digits: &[u8]) -> Option<u64>
+    ensures value { result ≡ magnitude_of digits.now }
+    ensures small { IfSome result (λ n. n < 10 ^ 10) }
 {
-    (1..=10).contains(&text.len()) && text.iter().all(u8::is_ascii_digit)
-}
-
-// A text without its minus, if it has one. Matched, a form that the project fixes; `strip_prefix` would do.
-fn digits_of(text: &[u8]) -> &[u8]
-    ensures { result.now ≡ unsigned text.now }
-{
-    match text {
-        [b'-', digits @ ..] => digits,
-        digits => digits,
+    if digits.is_empty() || digits.len() > 10 {
+        return None;
     }
+    let mut value: u64 = 0;
+    for digit in digits {
+        if !digit.is_ascii_digit() {
+            return None;
+        }
+        value = value * 10 + u64::from(*digit - b'0');
+    }
+    Some(value)
 }
 
-// The number that a text spells.
+// The number that a text spells. Its minus is matched, a form that the project fixes; `strip_prefix` would do.
 pub fn number(text: &[u8]) -> Option<i64>
     ensures { result ≡ number_of text.now }
 {
-    let digits = digits_of(text);
-    if !is_magnitude(digits) {
-        return None;
+    match text {
+        [b'-', digits @ ..] => {
+            let n = magnitude(digits)?;
+            Some(-(n as i64))
+        }
+        _ => {
+            let n = magnitude(text)?;
+            Some(n as i64)
+        }
     }
-    from_utf8(text).ok()?.parse().ok()
 }
 
 // The number that a text spells, if it lies from `low` to `high`.

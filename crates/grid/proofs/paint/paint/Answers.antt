@@ -21,5 +21,5 @@ loop-patch-preserved c k =
           (w.fill.ensures.after (λ y e. e) ∙ ap (λ b. replicate (length (take (p.x1 * s - p.x0 * s) (drop (p.x0 * s) row))) b) w.from.ensures))
       | else-contains w ↦ rw (w.row-is, w.if-contains.false)
     ] in
-    patch_more ps i s c.args.y v k (get_or c.args.row.now k 0) (get_or row k 0) (get_or c.if-contains.row k 0) c.loop-patch-test.true c.requires.scale.0 c.requires.scale.1 (c.loop-patch.invariant k)
+    patch_more ps i s c.args.y v k (get_or c.args.row.now k 0) (get_or row k 0) (get_or c.if-contains.row k 0) c.loop-patch-test.true c.requires.scale.0 (c.loop-patch.invariant k)
     (written ∙ ap (λ b. cond (b && (leb (p.x0 * s) k && ltb k (p.x1 * s))) v (get_or row k 0)) c.contains.ensures.value)

@@ -4,7 +4,7 @@ use Rattle.sheets.specs.Lists.{lists}
 use Rattle.mesh.specs.Reads.{state_of}
 use Rattle.scenario.specs.Program.{run_lines}
 use Rattle.scenario.specs.Left.{lines_left}
-use Rattle.scenario.proofs.Runs.{goes_on}
+use Rattle.scenario.proofs.Runs.{goes_on_at}
 use Rattle.scenario.proofs.lines.run_lines.Goals as goal
 
 pub loop-index-preserved : goal.loop-index-preserved
@@ -16,9 +16,9 @@ loop-index-preserved g c =
     let step = c.in-Some.ensures.steps in
     let shorter = (c.in-Some.ensures.goes.on tt).2 in (
       omega (arith, step.1, step.2, shorter, l.invariant.0),
-      goes_on G K (c.in-Some.index + 2) l.phase (state_of G l.mesh sheets) sheets
+      goes_on_at G K (c.in-Some.index + 2) _ l.phase (state_of G l.mesh sheets) sheets
           c.in-Some.line.now (lines_left (enumerate_source c.next.new.self)) (string_bytes l.out)
-          _ c.in-Ok.said _ _ _ step.0 c.in-Ok.ensures c.execute-answer.ensures (omega (arith, step.1, step.2)) c.in_ok-write_answer.ensures
+          _ c.in-Ok.said _ _ _ (omega arith) step.0 c.in-Ok.ensures c.execute-answer.ensures (omega (arith, step.1, step.2)) c.in_ok-write_answer.ensures
           ∙ (ap (λ i. string_bytes l.out ++ run_lines G K (i + 2) l.phase (state_of G l.mesh sheets) sheets (lines_left (enumerate_source l.index-iterator))) step.1
           ∙ l.invariant.1),
     )

@@ -10,7 +10,7 @@ pub returns-in_err-push : goal.returns-in_err-push
 returns-in_err-push c =
     let is = ap not (sym (ne_eqb _ 0 c.if-wanted-ne0.true)) ∙ c.wanted_row-wanted-items.ensures.wanted c.loop-x.x (omega arith) in
     let e = next_cell c.args.cells.now c.args.y c.loop-x.x true is (omega arith) in
-    overfull c.loop-x.invariant (stretch c.loop-x.x (c.loop-x.x + 1) c.args.y ∷ []) _ e (rw c.stretch.ensures at c.in_err-push.ensures) _ c.from_residual.ensures.0
+    overfull c.loop-x.invariant (stretch c.loop-x.x (c.loop-x.x + 1) c.args.y ∷ []) _ e (rw c.stretch.ensures at c.in_err-push.ensures.written) _ c.from_residual.ensures.0
 
 pub loop-x-preserved : goal.loop-x-preserved
 loop-x-preserved c =
@@ -18,7 +18,7 @@ loop-x-preserved c =
     elim c.if-wanted-ne0.branch [
       | then-wanted-ne0+in_ok-push w ↦
           let e = next_cell c.args.cells.now c.args.y c.loop-x.x true (ap not (sym (ne_eqb _ 0 w.if-wanted-ne0.true)) ∙ known) (omega arith) in
-          simp w.boxes-is (further c.loop-x.invariant (stretch c.loop-x.x (c.loop-x.x + 1) c.args.y ∷ []) _ e (rw w.stretch.ensures at w.in_ok-push.ensures))
+          simp w.boxes-is (further c.loop-x.invariant (stretch c.loop-x.x (c.loop-x.x + 1) c.args.y ∷ []) _ e (rw w.stretch.ensures at w.in_ok-push.ensures.written))
       | else-wanted-ne0 w ↦
           let e = next_cell c.args.cells.now c.args.y c.loop-x.x false (ap not (sym (eq-eqb _ 0 w.if-wanted-ne0.false)) ∙ known) (omega arith) in
           simp w.boxes-is (left c.loop-x.invariant e)

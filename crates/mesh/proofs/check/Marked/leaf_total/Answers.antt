@@ -1,4 +1,5 @@
-use Rattle.std.proofs.Common.{true, false, eqb, length, sym, ap, ◌∙◌, arith, take_all}
+use Rattle.std.proofs.Common.{true, false, length, sym, ap, ◌∙◌, arith, take_all}
+use Rattle.std.proofs.lemmas.Bool.Decides.{nat_tests}
 use Rattle.std.proofs.lemmas.List.{length_push}
 use Rattle.std.proofs.lemmas.Slice.Zip.{zip_turn, zip_end}
 use Rattle.amount.specs.Additions.{sum}
@@ -16,14 +17,14 @@ pub loop-content-preserved-then-is : goal.loop-content-preserved-then-is
 loop-content-preserved-then-is g c =
     let turn = zip_turn c.args.contents.now c.args.self.marks.now c.loop-content.yielded c.into_iter-content-iterator.result c.loop-content.content-iterator c.next.new.self _ (cc) (cc) c.loop-content.yielded_by _ c.in-Some.is c.next.ensures.steps in
     simp (c.add-total.ensures, c.loop-content.invariant, turn.2 g.V.Amount.addition.zero, length_push)
-    (counts_more g.V.Amount.addition g.met.V.Amount.sums c.args.self.layout.now c.args.self.agrees c.args.contents.now c.requires.whole _ turn.0 true (c.if-is.ensures ∙ ap (λ v. eqb v 1) (turn.3 0)))
+    (counts_more g.V.Amount.addition g.met.V.Amount.sums c.args.self.layout.now c.args.self.agrees c.args.contents.now c.requires.whole _ turn.0 true (let mark = turn.3 0 in grind (arith, nat_tests)))
 
 pub loop-content-preserved : goal.loop-content-preserved
 loop-content-preserved g c =
     let turn = zip_turn c.args.contents.now c.args.self.marks.now c.loop-content.yielded c.into_iter-content-iterator.result c.loop-content.content-iterator c.next.new.self _ (cc) (cc) c.loop-content.yielded_by _ c.in-Some.is c.next.ensures.steps in
     simp (c.loop-content.invariant, length_push)
     (sym (g.met.V.Amount.sums.neutral _)
-    ∙ counts_more g.V.Amount.addition g.met.V.Amount.sums c.args.self.layout.now c.args.self.agrees c.args.contents.now c.requires.whole _ turn.0 false (c.if-is.ensures ∙ ap (λ v. eqb v 1) (turn.3 0)))
+    ∙ counts_more g.V.Amount.addition g.met.V.Amount.sums c.args.self.layout.now c.args.self.agrees c.args.contents.now c.requires.whole _ turn.0 false (let mark = turn.3 0 in grind (arith, nat_tests)))
 
 pub returns : goal.returns
 returns g c =

@@ -16,7 +16,7 @@ all_long_parts n sheets e = (grind (arith, nat_tests), grind (arith, nat_tests),
 pub returns : goal.returns
 returns g c =
     let G = g.V.Amount.addition in
-    let o = c.in_ok-layout.layout in
+    let o = c.in-Some.layout in
     let some : c.flat.result ≡ Some o = grind arith in
     let flat = rw some at c.flat.ensures in
     let none = no_patches o flat.2 flat.3 in

@@ -4,8 +4,8 @@ use Rattle.std.proofs.lemmas.Bool.Decides.{nat_tests}
 use Rattle.grid.specs.Marks.{byte_of}
 use Rattle.grid.proofs.Levels.{shifted}
 use Rattle.grid.proofs.Rows.{patches_inside, painted_mark}
-use Rattle.grid.proofs.level.Level.row.Goals as goal
-use Rattle.grid.proofs.level.Level.row.Goals.{then-self-eq0, else-self-eq0}
+use Rattle.grid.proofs.level.Level.paint_row.Goals as goal
+use Rattle.grid.proofs.level.Level.paint_row.Goals.{then-self-eq0, else-self-eq0}
 
 pub paint-requires-clause-inside : goal.paint-requires-clause-inside
 paint-requires-clause-inside c = rw (c.patches-own.ensures) (patches_inside c.args.self.layout.now c.args.self.number)
@@ -22,4 +22,7 @@ returns c = λ x lx.
       | else-self-eq0 w ↦ rw w.bare-is (grind (arith, nat_tests))
     ] in
     let e = painted_mark o n x c.args.y (byte_of c.if-self-eq0.bare) bare lx c.requires in
-    cc (c.paint-2.ensures x, c.paint.ensures x, get_or-replicate 256 x c.from-row.result 0 (omega (arith, shifted o.size.width n (omega arith) (omega arith) (omega arith))), e)
+    let second = c.paint-2.ensures x in
+    let first = c.paint.ensures x in
+    let filled = get_or-replicate 256 x c.from-row.result 0 (omega (arith, shifted o.size.width n (omega arith) (omega arith) (omega arith))) in
+    grind (arith, e, first, second, filled)

@@ -1,0 +1,11 @@
+// Whole numbers that are rounded down.
+ghost use Rattle.std.specs.Prelude.{◌≡◌, pos, ◌<ℤ◌};
+ghost use Rattle.interfaces.specs.Whole.{floor_div};
+
+// z / d, rounded down: said once for all divisions of the rule, so that one place can be wrong and no two.
+pub(crate) fn floor_div(z: i64, d: i64) -> i64
+    requires { pos 0 <ℤ d }
+    ensures { result ≡ floor_div z d }
+{
+    z.div_euclid(d)
+}
