@@ -4,7 +4,7 @@
 ghost use Rattle.std.specs.Prelude.{◌≤◌, IfOk};
 
 use std::io;
-use std::io::{ErrorKind, Read};
+use std::io::Read;
 
 // One byte more than a scenario may have, so that a longer one is seen to be longer.
 const ENOUGH: usize = 12_289;
@@ -16,16 +16,15 @@ fn read_input(rt: &HostRuntime, buffer: &mut [u8; ENOUGH]) -> io::Result<usize>
 {
     let mut input = rt.stdin();
     let mut length = 0;
-    for _ in 0..u64::MAX {
+    for _ in 0..ENOUGH {
         if length >= ENOUGH {
             break;
         }
-        match input.read(&mut buffer[length..]) {
-            Ok(0) => break,
-            Ok(count) => length += count,
-            Err(error) if error.kind() == ErrorKind::Interrupted => {}
-            Err(error) => return Err(error),
+        let count = input.read(&mut buffer[length..])?;
+        if count == 0 {
+            break;
         }
+        length += count;
     }
     Ok(length)
 }
