@@ -24,7 +24,7 @@ impl Steep {
 impl<V: HasVolume> Flagging<V> for Steep {
     ghost flags = { λ s. steep_rule V.HasVolume.volume s.threshold };
 
-    // Neighbour by neighbour, up to the first that differs: an array of all four volumes is filled before one is compared.
+    // Neighbour by neighbour, up to the first that differs.
     fn flag(&self, level: usize, place: Place, content: V, neighbours: &Neighbours<V>) -> bool {
         self.differ(&content, &neighbours.west)
             || self.differ(&content, &neighbours.east)

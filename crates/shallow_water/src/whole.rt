@@ -2,7 +2,7 @@
 ghost use Rattle.std.specs.Prelude.{◌≡◌, pos, ◌<ℤ◌};
 ghost use Rattle.interfaces.specs.Whole.{floor_div};
 
-// z / d, rounded down: said once for all divisions of the rule, so that one place can be wrong and no two.
+// z / d, rounded down, for what crosses a face and for a momentum that is carried.
 pub(crate) fn floor_div(z: i64, d: i64) -> i64
     requires { pos 0 <ℤ d }
     ensures { result ≡ floor_div z d }

@@ -20,7 +20,8 @@ pub fn field(line: &[u8], number: usize) -> Option<&[u8]>
     line.split(|byte| *byte == b',').nth(number)
 }
 
-// How many fields a line has. Counted in a loop, since `split` and `filter` go over a line of many commas at half the speed.
+// How many fields a line has. Counted in a loop, since `split`, and `filter` with `count`, take more than twice the instructions where
+// there are many commas.
 pub fn field_count(line: &[u8]) -> usize
     ensures { result ≡ length (fields line.now) }
 {

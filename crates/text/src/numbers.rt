@@ -4,7 +4,8 @@ ghost use Rattle.text.specs.Numbers.{magnitude_of, number_of, within, field_with
 
 use crate::fields::field;
 
-// The value of one to ten digits, read one by one: the library's `parse` wants a `&str` and goes over the digits three times.
+// The value of one to ten digits, read one by one. The library's `parse` would need two passes before its own: a look at the digits,
+// since it takes a plus and more than ten, and one that makes a `&str` of them.
 fn magnitude(digits: &[u8]) -> Option<u64>
     ensures value { result ≡ magnitude_of digits.now }
     ensures small { IfSome result (λ n. n < 10 ^ 10) }
